@@ -1,0 +1,57 @@
+//! Why a loader has no record to give.
+
+ghost use mathlib.Core.Path.{_≡_};
+ghost use Rattle.loaders.specs.Fault.{causeNumber, causeLine, passedUp};
+
+/// The cause of a fault.
+#[derive(Clone, Copy, PartialEq, Eq, Debug)]
+pub enum Cause {
+    /// The loader has no record of the key.
+    NoRecord,
+    /// This line of a sheet, counted from 1, is broken.
+    BrokenLine(usize),
+    /// The shifted coordinates do not fit 32 bits.
+    OutOfRange,
+}
+
+/// A loader's refusal: its cause, and the layers that it has passed on the way up.
+#[derive(Clone, Copy, PartialEq, Eq, Debug)]
+pub struct Fault {
+    pub cause: Cause,
+    pub depth: u8,
+}
+
+impl Cause {
+    /// The cause's number in the refusal table.
+    pub fn number(&self) -> u8
+        ensures { λ r. ⌜ r ≡ causeNumber (now (self .entry)) ⌝ }
+    {
+        match self {
+            Cause::NoRecord => 6,
+            Cause::BrokenLine(_) => 7,
+            Cause::OutOfRange => 8,
+        }
+    }
+
+    /// The line that the cause names, or 0.
+    pub fn line(&self) -> usize
+        ensures { λ r. ⌜ r ≡ causeLine (now (self .entry)) ⌝ }
+    {
+        match self {
+            Cause::BrokenLine(line) => *line,
+            Cause::NoRecord | Cause::OutOfRange => 0,
+        }
+    }
+}
+
+impl Fault {
+    /// The fault as the layer above hands it on: one layer more, staying at 255.
+    pub fn passed_up(self) -> Self
+        ensures { λ r. ⌜ r ≡ passedUp self ⌝ }
+    {
+        Fault {
+            cause: self.cause,
+            depth: self.depth.saturating_add(1),
+        }
+    }
+}
