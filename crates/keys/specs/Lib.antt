@@ -1,1 +1,3 @@
-pub mod Kind
+pub mod Hash
+pub mod Named
+pub mod Numbered
