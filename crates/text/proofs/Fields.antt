@@ -12,7 +12,16 @@ use Rattle.std.specs.Finds.{BeginsText, NotAt}
 use Rattle.std.specs.Options.{Cases, mapped}
 use Rattle.std.specs.declared.option.Option.{Option}
 use Rattle.std.specs.declared.option.Option.the-variants.{Some, None}
-use Rattle.text.specs.Field.{ahead, cut, parts, stripped}
+use Rattle.text.specs.Field.{ahead, andThen, cut, fieldText, parts, stripped}
+
+-- a chain of steps that came to its end came through each step
+pub then-some : {X Y : Type 0} (o : Option X) (f : X → Option Y) (y : Y) → andThen o f ≡ Some y → (x : X) × (o ≡ Some x) × (f x ≡ Some y)
+then-some None f y e = let z : _≡_ {A = ℕ} 0 1 = cc in absurd (omega arith)
+then-some (Some x) f y e = (x, refl, e)
+
+pub mapped-some : {X Y : Type 0} (f : X → Y) (o : Option X) (y : Y) → mapped f o ≡ Some y → (x : X) × (o ≡ Some x) × (f x ≡ y)
+mapped-some f None y e = let z : _≡_ {A = ℕ} 0 1 = cc in absurd (omega arith)
+mapped-some f (Some x) y e = (x, refl, cc)
 
 -- a text without c
 abbrev pub Lacks : ℕ → List ℕ → Type 0
@@ -77,3 +86,12 @@ stripped-none label bs (Some rest) h e = absurd (h rest (stripped-is label bs re
 pub stripped-from-begins : (label bs : List ℕ) (r : Option (RefT (List ℕ))) → Cases r (BeginsText label bs None) (λ x. (n : ℕ) × BeginsText label bs (Some n) × (x .now ≡ drop n bs) × (length (x .now) + n ≡ length bs)) → mapped (λ x. x .now) r ≡ stripped label bs
 stripped-from-begins label bs None h = stripped-none label bs (stripped label bs) h refl
 stripped-from-begins label bs (Some x) (n, (k, is, at), rest, len) = let e : bs ≡ label ++ x .now = cc in sym (ap (stripped label) e ∙ stripped-prefix label (x .now))
+
+-- a field gives its label, its text and what follows it back
+pub field-is : (label bs xs ys : List ℕ) → fieldText label bs ≡ Some (xs, ys) → bs ≡ label ++ (xs ++ (32 ∷ ys))
+field-is label bs xs ys e =
+    let rest = then-some (stripped label bs) (λ rest. cut 32 rest) (xs, ys) e in
+    stripped-is label bs (rest .0) (rest .1) ∙ ap (λ l. label ++ l) (cut-is 32 (rest .0) xs ys (rest .2) .0)
+
+pub field-some : (label xs ys : List ℕ) → Lacks 32 xs → fieldText label (label ++ (xs ++ (32 ∷ ys))) ≡ Some (xs, ys)
+field-some label xs ys h = rw (stripped-prefix label (xs ++ (32 ∷ ys))) (cut-some 32 xs ys h)

@@ -12,7 +12,7 @@ use mir.Syntax.{w32}
 use mir.Val.{SFits}
 use native.Mathlib.Omega.{arith}
 use Rattle.std.proofs.shelf.Decimals.{digits-decimal, value-decimal, decimal-some, first-decimal, decimal-digit, decimal-value}
-use Rattle.std.proofs.shelf.Numerals.{Numerals, numerals-by-value, tells-allDigits, parse-plain, parse-signed-plain, parse-signed-minus}
+use Rattle.std.proofs.shelf.Numerals.{Numerals, numerals-by-value, tells-allDigits, not-in-digits, parse-plain, parse-signed-plain, parse-signed-minus}
 use Rattle.std.proofs.shelf.Tests.{and-parts, ltb-true, lt-ltb, cases-bool, cases-lt, or-parts, or-cases}
 use Rattle.std.proofs.shelf.Ways.{tells}
 use Rattle.std.specs.Numbers.{Converted}
@@ -20,12 +20,14 @@ use Rattle.std.specs.Options.{Cases, mapped}
 use Rattle.std.specs.Orderings.{Decides}
 use Rattle.std.specs.Reads.{value, ReadsUnsigned, ReadsSigned}
 use Rattle.std.specs.Results.{okPart}
+use Rattle.std.specs.Text.{In}
 use Rattle.std.specs.Written.{decimal, signed}
 use Rattle.std.specs.declared.option.Option.{Option}
 use Rattle.std.specs.declared.option.Option.the-variants.{Some, None}
 use Rattle.std.specs.declared.result.Result.{Result}
 use Rattle.std.specs.declared.result.Result.the-variants.{Ok, Err}
 use Rattle.std.specs.shelf.Text.{allDigits}
+use Rattle.text.proofs.Fields.{Lacks, lacks-more}
 use Rattle.text.specs.Number.{plain, negative, unsignedText, signedText}
 
 pub own : Numerals (λ ds. allDigits ds ≡ true) (value 10)
@@ -199,3 +201,13 @@ signed-is bs z e =
 pub signed-exact : (bs : List ℕ) (r : Option ℤ) → r ≡ signedText bs → Cases r ((z : ℤ) → SFits w32 z → bs ≡ signed z → ⊥) (λ z. bs ≡ signed z)
 signed-exact bs (Some z) e = signed-is bs z (sym e)
 signed-exact bs None e = λ z fits is. let back = signed-back z fits in let none : _≡_ {A = ℕ} 0 1 = cc in omega arith
+
+-- a numeral holds digits and a minus alone
+pub decimal-lacks : (c n : ℕ) → n < 2 ^ 64 → (In 48 57 c → ⊥) → Lacks c (decimal n)
+decimal-lacks c n fits other = not-in-digits own (decimal n) c (digits-decimal own n fits) other
+
+pub signed-lacks : (c : ℕ) (z : ℤ) → SFits w32 z → (In 48 57 c → ⊥) → (45 ≡ c → ⊥) → Lacks c (signed z)
+signed-lacks c (pos n) fits other minus = let low : n < 2 ^ 31 = fits .sfits in decimal-lacks c n (omega arith) other
+signed-lacks c (negsuc n) fits other minus =
+    let low : n < 2 ^ 31 = fits .sfits in
+    lacks-more c 45 (decimal (suc n)) minus (decimal-lacks c (suc n) (omega arith) other)
