@@ -1,4 +1,6 @@
 use Prim.Native.Nat.{ℕ, _+_, min}
+use Rattle.std.specs.declared.result.Result.{Result}
+use Rattle.std.specs.declared.result.Result.the-variants.{Ok, Err}
 use Rattle.loaders.specs.declared.fault.Cause.{Cause}
 use Rattle.loaders.specs.declared.fault.Cause.the-variants.{NoRecord, BrokenLine, OutOfRange}
 use Rattle.loaders.specs.declared.fault.Fault.{Fault}
@@ -18,3 +20,12 @@ causeLine OutOfRange = 0
 -- the fault as the layer above hands it on
 abbrev pub passedUp : Fault → Fault
 passedUp f = record { cause = f .cause; depth = min (f .depth + 1) 255 }
+
+-- a fault where it arises
+abbrev pub fault : Cause → Fault
+fault cause = record { cause = cause; depth = 0 }
+
+-- an answer as the layer above hands it on
+abbrev pub raised : {V : Type 0} → Result V Fault → Result V Fault
+raised (Ok v) = Ok v
+raised (Err f) = Err (passedUp f)

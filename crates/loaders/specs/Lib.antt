@@ -1,1 +1,3 @@
 pub mod Fault
+pub mod Layer
+pub mod Look

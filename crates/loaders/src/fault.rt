@@ -1,7 +1,7 @@
-//! Why a loader has no record to give.
+//! Why a loader has no value to give.
 
 ghost use mathlib.Core.Path.{_≡_};
-ghost use Rattle.loaders.specs.Fault.{causeNumber, causeLine, passedUp};
+ghost use Rattle.loaders.specs.Fault.{causeLine, causeNumber, fault, passedUp, raised};
 
 /// The cause of a fault.
 #[derive(Clone, Copy, PartialEq, Eq, Debug)]
@@ -45,6 +45,13 @@ impl Cause {
 }
 
 impl Fault {
+    /// The fault where it arises.
+    pub fn new(cause: Cause) -> Self
+        ensures { λ r. ⌜ r ≡ fault cause ⌝ }
+    {
+        Fault { cause, depth: 0 }
+    }
+
     /// The fault as the layer above hands it on: one layer more, staying at 255.
     pub fn passed_up(self) -> Self
         ensures { λ r. ⌜ r ≡ passedUp self ⌝ }
@@ -53,5 +60,15 @@ impl Fault {
             cause: self.cause,
             depth: self.depth.saturating_add(1),
         }
+    }
+}
+
+/// An answer as the layer above hands it on.
+pub fn handed_up<V>(answer: Result<V, Fault>) -> Result<V, Fault>
+    ensures { λ r. ⌜ r ≡ raised answer ⌝ }
+{
+    match answer {
+        Ok(value) => Ok(value),
+        Err(fault) => Err(fault.passed_up()),
     }
 }

@@ -7,6 +7,7 @@ use mathlib.Core.Bool.{Bool, true, false, cond}
 use mathlib.Core.List.{List, [], _∷_, _++_}
 use mathlib.Core.Path.{_≡_, refl, sym, ap, subst, _∙_}
 use native.Mathlib.Omega.{arith}
+use Rattle.std.proofs.shelf.Lists.{length-append}
 use Rattle.std.proofs.shelf.Tests.{eq-eqb, ne-eqb, eqb-true, eqb-false}
 use Rattle.std.specs.Finds.{BeginsText, NotAt}
 use Rattle.std.specs.Options.{Cases, mapped}
@@ -63,6 +64,21 @@ cut-is c (b ∷ bs) xs ys e =
     (elim (eqb b c) as (λ t. eqb b c ≡ t → _≡_ {A = Option (List ℕ × List ℕ)} (cond t (Some ([], bs)) (mapped (ahead b) (cut c bs))) (Some (xs, ys)) → (b ∷ bs ≡ xs ++ (c ∷ ys)) × Lacks c xs) [
       | true ↦ λ p q. let same : b ≡ c = eqb-true b c p in let both : _≡_ {A = List ℕ × List ℕ} ([], bs) (xs, ys) = cc in let l : [] ≡ xs = ap (λ (t : List ℕ × List ℕ). t .0) both in let r : bs ≡ ys = ap (λ (t : List ℕ × List ℕ). t .1) both in (rw (same, ← l, r) refl, subst (Lacks c) l (λ i low. absurd (omega arith)))
       | false ↦ λ p q. cut-past c b bs (cut c bs) xs ys (eqb-false b c p) (cut-is c bs) q
+    ]) refl e
+
+pub cut-shorter : (c : ℕ) (bs xs ys : List ℕ) → cut c bs ≡ Some (xs, ys) → length ys < length bs
+cut-shorter c bs xs ys e = omega (arith, simp length-append at (ap length (cut-is c bs xs ys e .0)))
+
+mapped-none : {X Y : Type 0} (f : X → Y) (o : Option X) → mapped f o ≡ None → o ≡ None
+mapped-none f None e = refl
+mapped-none f (Some x) e = let z : _≡_ {A = ℕ} 0 1 = cc in absurd (omega arith)
+
+pub cut-lacks : (c : ℕ) (bs : List ℕ) → cut c bs ≡ None → Lacks c bs
+cut-lacks c [] e = λ i low. absurd (omega arith)
+cut-lacks c (b ∷ bs) e =
+    (elim (eqb b c) as (λ t. eqb b c ≡ t → _≡_ {A = Option (List ℕ × List ℕ)} (cond t (Some ([], bs)) (mapped (ahead b) (cut c bs))) None → Lacks c (b ∷ bs)) [
+      | true ↦ λ p q. let z : _≡_ {A = ℕ} 0 1 = cc in absurd (omega arith)
+      | false ↦ λ p q. lacks-more c b bs (eqb-false b c p) (cut-lacks c bs (mapped-none (ahead b) (cut c bs) q))
     ]) refl e
 
 pub stripped-prefix : (label rest : List ℕ) → stripped label (label ++ rest) ≡ Some rest

@@ -1,2 +1,3 @@
-pub mod Number
 pub mod Field
+pub mod Line
+pub mod Number
