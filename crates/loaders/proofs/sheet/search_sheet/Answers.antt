@@ -1,17 +1,15 @@
 use Prim.Native.Nat.{_+_, _<_}
 use borrow.Author.Needs.{needs}
 use lib.ListN.{length}
-use mathlib.Core.Bool.{true, false}
-use mathlib.Core.Path.{_≡_, refl, sym, ap, _∙_}
+use mathlib.Core.Path.{_≡_, sym, ap, _∙_}
 use native.Mathlib.Omega.{arith}
 use Rattle.std.proofs.shelf.Ways.{tells}
 use Rattle.std.specs.declared.option.Option.the-variants.{Some, None}
 use Rattle.std.specs.declared.result.Result.the-variants.{Err}
-use Rattle.std.specs.shelf.Text.{sameBytes}
 use Rattle.survey.specs.Entry.{lineText}
 use Rattle.text.proofs.Fields.{cut-shorter}
 use Rattle.text.specs.Field.{cut}
-use Rattle.loaders.proofs.Looking.{same-tells, sheet-end, sheet-more, sheet-uncut, sheet-unread}
+use Rattle.loaders.proofs.Looking.{sheet-end, sheet-more, sheet-uncut, sheet-unread}
 use Rattle.loaders.proofs.sheet.search_sheet.Needs as need
 
 pub returns-in-rest : need.returns-in-rest
@@ -33,11 +31,9 @@ returns-in-rest-read-entry g c =
 pub returns-then-same : need.returns-then-same
 returns-then-same g c =
     let meaning = g .K·Key .meaning in
-    let word = meaning (c .args .key .now) in
     let e = c .in-Some-read-entry .entry in
-    let is : sameBytes (meaning (e .key)) word ≡ true = same-tells (c .same .result) (meaning (e .key)) word (c .same .ensures) ∙ c .if-same .taken in
-    let step = sheet-more (g .K·WrittenKey .meant) (c .lines .before + 1) (c .lines .rest .now) word (c .in-Some .line .now) (c .in-Some .after .now) (meaning (e .key)) (e .value) (sym (c .in-Some .ensures tt)) (sym (c .in-Some-read-entry .ensures tt)) in
-    sym (rw is at step) ∙ c .lines .inv .1
+    let step = sheet-more (g .K·WrittenKey .meant) (c .lines .before + 1) (c .lines .rest .now) (meaning (c .args .key .now)) (c .in-Some .line .now) (c .in-Some .after .now) (meaning (e .key)) (e .value) (c .same .result) (sym (c .in-Some .ensures tt)) (sym (c .in-Some-read-entry .ensures tt)) (c .same .ensures) in
+    sym (rw (c .if-same .taken) at step) ∙ c .lines .inv .1
 
 pub lines-less : need.lines-less
 lines-less g c = cut-shorter 10 (c .lines .rest .now) (c .in-Some .line .now) (c .in-Some .after .now) (sym (c .in-Some .ensures tt))
@@ -45,12 +41,10 @@ lines-less g c = cut-shorter 10 (c .lines .rest .now) (c .in-Some .line .now) (c
 pub lines-again : need.lines-again
 lines-again g c =
     let meaning = g .K·Key .meaning in
-    let word = meaning (c .args .key .now) in
     let e = c .in-Some-read-entry .entry in
     let shorter = cut-shorter 10 (c .lines .rest .now) (c .in-Some .line .now) (c .in-Some .after .now) (sym (c .in-Some .ensures tt)) in
-    let is : sameBytes (meaning (e .key)) word ≡ false = same-tells (c .same .result) (meaning (e .key)) word (c .same .ensures) ∙ c .if-same .left in
-    let step = sheet-more (g .K·WrittenKey .meant) (c .lines .before + 1) (c .lines .rest .now) word (c .in-Some .line .now) (c .in-Some .after .now) (meaning (e .key)) (e .value) (sym (c .in-Some .ensures tt)) (sym (c .in-Some-read-entry .ensures tt)) in
-    (search needs, sym (rw is at step) ∙ c .lines .inv .1, omega (arith, shorter, c .lines .inv .2))
+    let step = sheet-more (g .K·WrittenKey .meant) (c .lines .before + 1) (c .lines .rest .now) (meaning (c .args .key .now)) (c .in-Some .line .now) (c .in-Some .after .now) (meaning (e .key)) (e .value) (c .same .result) (sym (c .in-Some .ensures tt)) (sym (c .in-Some-read-entry .ensures tt)) (c .same .ensures) in
+    (search needs, sym (rw (c .if-same .left) at step) ∙ c .lines .inv .1, omega (arith, shorter, c .lines .inv .2))
 
 pub returns : need.returns
 returns g c =
