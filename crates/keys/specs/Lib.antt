@@ -1,3 +1,4 @@
+pub mod Choice
 pub mod Hash
 pub mod Named
 pub mod Numbered

@@ -1,5 +1,6 @@
 -- Named keys: their meaning, and their text.
 use Prim.Native.Nat.{ℕ}
+use lib.Chars.{codes}
 use lib.Dec.{eqb, leb, ltb}
 use lib.ListN.{length}
 use mathlib.Core.Bool.{Bool, true, cond, _&&_, _||_}
@@ -27,3 +28,7 @@ isName bs = ltb 0 (length bs) && (leb (length bs) 16 && nameBytes bs)
 -- the meaning that a text writes
 abbrev pub namedText : List ℕ → Option (List ℕ)
 namedText bs = cond (isName bs) (Some (map folded bs)) None
+
+-- what such a key looks like, for whoever wrote something else
+abbrev pub namedForm : List ℕ
+namedForm = codes "1 to 16 letters, digits, hyphens and underscores, as Upper-3"

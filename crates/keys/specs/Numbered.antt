@@ -1,5 +1,6 @@
 -- Numbered keys: their meaning, and their text.
 use Prim.Native.Nat.{ℕ, _^_}
+use lib.Chars.{codes}
 use mathlib.Core.List.{List, [], _∷_, _++_}
 use Rattle.std.specs.Options.{mapped}
 use Rattle.std.specs.Written.{decimal}
@@ -26,3 +27,7 @@ numberedText bs =
     andThen
     (cut 46 bs)
     (λ p. andThen (unsignedText (2 ^ 16) (p .0)) (λ survey. mapped (pair survey) (unsignedText (2 ^ 16) (p .1))))
+
+-- what such a key looks like, for whoever wrote something else
+abbrev pub numberedForm : List ℕ
+numberedForm = codes "a survey and a station number, each 0 to 65535, as 12.7"

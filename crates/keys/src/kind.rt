@@ -32,8 +32,11 @@ pub trait HashedKey: Key {
 pub trait WrittenKey: HashedKey + Display {
     ghost meant: { List ℕ → Option (List ℕ) };
 
-    /// Which texts are read, for a message to whoever wrote another.
-    const FORM: &'static str;
+    ghost advised: { List ℕ };
+
+    /// What a key of this kind looks like, for whoever wrote something else.
+    fn form() -> &'static str
+        ensures { λ r. ⌜ now r ≡ advised ⌝ };
 
     /// The key that `text` writes: just the texts that `meant` gives a meaning are read.
     fn read(text: &str) -> Option<Self>

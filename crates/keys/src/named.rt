@@ -9,7 +9,7 @@ ghost use Rattle.std.specs.Orderings.{Decides};
 ghost use Rattle.std.specs.Slices.{found};
 ghost use Rattle.std.specs.declared.option.Option.the-variants.{Some};
 ghost use Rattle.keys.specs.Hash.{hashFrom, hashOf};
-ghost use Rattle.keys.specs.Named.{folded, isName, nameByte, namedText};
+ghost use Rattle.keys.specs.Named.{folded, isName, nameByte, namedForm, namedText};
 use crate::hash::SEED;
 use crate::hash::finish;
 use crate::hash::mix;
@@ -140,8 +140,11 @@ pub impl fmt::Display for NamedKey as NamedKeyDisplay {
 pub impl WrittenKey for NamedKey as NamedKeyWrittenKey {
     ghost meant = { namedText };
 
-    const FORM: &'static str =
-        "a name of 1 to 16 letters, digits, hyphens and underscores, as Upper-3";
+    ghost advised = { namedForm };
+
+    fn form() -> &'static str {
+        "1 to 16 letters, digits, hyphens and underscores, as Upper-3"
+    }
 
     fn read(text: &str) -> Option<NamedKey> {
         read_named(text)

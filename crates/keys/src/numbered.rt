@@ -5,7 +5,7 @@ ghost use Prim.Native.Nat.{ℕ, _<_, _^_};
 ghost use Rattle.std.specs.Options.{Cases, mapped};
 ghost use Rattle.std.specs.declared.option.Option.the-variants.{Some};
 ghost use Rattle.keys.specs.Hash.{hashOf};
-ghost use Rattle.keys.specs.Numbered.{dotted, numbers, numberedText};
+ghost use Rattle.keys.specs.Numbered.{dotted, numbers, numberedForm, numberedText};
 use crate::hash::SEED;
 use crate::hash::finish;
 use crate::hash::mix;
@@ -71,7 +71,11 @@ pub fn read_numbered(text: &str) -> Option<NumberedKey>
 pub impl WrittenKey for NumberedKey as NumberedKeyWrittenKey {
     ghost meant = { numberedText };
 
-    const FORM: &'static str = "a survey and a station number, each 0 to 65535, as 12.7";
+    ghost advised = { numberedForm };
+
+    fn form() -> &'static str {
+        "a survey and a station number, each 0 to 65535, as 12.7"
+    }
 
     fn read(text: &str) -> Option<NumberedKey> {
         read_numbered(text)

@@ -1,4 +1,7 @@
 use Prim.Native.Nat.{ℕ, _+_, min}
+use lib.Chars.{codes}
+use mathlib.Core.List.{List, _++_}
+use Rattle.std.specs.Written.{decimal}
 use Rattle.std.specs.declared.result.Result.{Result}
 use Rattle.std.specs.declared.result.Result.the-variants.{Ok, Err}
 use Rattle.loaders.specs.declared.fault.Cause.{Cause}
@@ -16,6 +19,12 @@ abbrev pub causeLine : Cause → ℕ
 causeLine NoRecord = 0
 causeLine (BrokenLine line) = line
 causeLine OutOfRange = 0
+
+-- the cause in words
+abbrev pub causeText : Cause → List ℕ
+causeText NoRecord = codes "no record of the key"
+causeText (BrokenLine line) = codes "line " ++ (decimal line ++ codes " is broken")
+causeText OutOfRange = codes "shifted out of range"
 
 -- the fault as the layer above hands it on
 abbrev pub passedUp : Fault → Fault

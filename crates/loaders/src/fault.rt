@@ -1,7 +1,10 @@
 //! Why a loader has no value to give.
 
 ghost use mathlib.Core.Path.{_≡_};
-ghost use Rattle.loaders.specs.Fault.{causeLine, causeNumber, fault, passedUp, raised};
+ghost use Rattle.std.specs.declared.option.Option.the-variants.{Some};
+ghost use Rattle.loaders.specs.Fault.{causeLine, causeNumber, causeText, fault, passedUp, raised};
+
+use std::fmt;
 
 /// The cause of a fault.
 #[derive(Clone, Copy, PartialEq, Eq, Debug)]
@@ -12,6 +15,18 @@ pub enum Cause {
     BrokenLine(usize),
     /// The shifted coordinates do not fit 32 bits.
     OutOfRange,
+}
+
+pub impl fmt::Display for Cause as CauseDisplay {
+    ghost shown = { λ c. Some (causeText c) };
+
+    fn fmt<W: fmt::Write>(&self, f: &mut fmt::Formatter<W>) -> fmt::Result {
+        match self {
+            Cause::NoRecord => f.write_str("no record of the key"),
+            Cause::BrokenLine(line) => write!(f, "line {line} is broken"),
+            Cause::OutOfRange => f.write_str("shifted out of range"),
+        }
+    }
 }
 
 /// A loader's refusal: its cause, and the layers that it has passed on the way up.
