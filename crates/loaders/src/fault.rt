@@ -3,7 +3,6 @@
 ghost use mathlib.Core.Path.{_≡_};
 ghost use Rattle.std.specs.declared.option.Option.the-variants.{Some};
 ghost use Rattle.loaders.specs.Fault.{causeLine, causeNumber, causeText, fault, passedUp, raised};
-
 use std::fmt;
 
 /// The cause of a fault.

@@ -2,7 +2,6 @@
 
 ghost use mathlib.Core.Path.{_≡_};
 ghost use Rattle.lookup.specs.Command.{wordText, wordOf};
-
 use text::field::after_label;
 
 /// A word of the command line.

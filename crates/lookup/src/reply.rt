@@ -3,20 +3,19 @@
 ghost use mathlib.Core.Path.{_≡_};
 ghost use Rattle.std.specs.declared.option.Option.the-variants.{Some};
 ghost use Rattle.lookup.specs.Reply.{kindReply, replyFor, replyText};
-
 use keys::choice::KeyKind;
 use keys::kind::WrittenKey;
 use keys::named::NamedKey;
+use keys::named::NamedKeyWrittenKey;
 use keys::numbered::NumberedKey;
+use keys::numbered::NumberedKeyWrittenKey;
+use loaders::fault::CauseDisplay;
 use loaders::fault::Fault;
 use loaders::loader::Loader;
 use loaders::sheet::Sheet;
+use loaders::sheet::SheetLoader;
 use std::fmt;
 use survey::station::Station;
-use keys::named::NamedKeyWrittenKey;
-use keys::numbered::NumberedKeyWrittenKey;
-use loaders::fault::CauseDisplay;
-use loaders::sheet::SheetLoader;
 use survey::station::StationDisplay;
 
 /// What was found under a written key.
