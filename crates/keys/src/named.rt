@@ -2,7 +2,6 @@
 
 ghost use mathlib.Core.List.{map};
 ghost use mathlib.Core.Path.{_≡_};
-ghost use Prim.Native.Nat.{_≤_};
 ghost use lib.ListN.{take};
 ghost use Rattle.std.specs.Options.{mapped};
 ghost use Rattle.std.specs.Orderings.{Decides};
@@ -26,7 +25,6 @@ pub const LONGEST_NAME: usize = 16;
 pub struct NamedKey {
     length: u8,
     bytes: [u8; LONGEST_NAME],
-    ghost short: { length ≤ 16 },
 }
 
 impl NamedKey {
@@ -34,7 +32,7 @@ impl NamedKey {
     pub fn spelling(&self) -> &[u8]
         ensures { λ r. ⌜ now r ≡ take (now (self .entry) .length) (now (self .entry) .bytes) ⌝ }
     {
-        &self.bytes[0..self.length as usize]
+        &self.bytes[0..LONGEST_NAME.min(self.length as usize)]
     }
 }
 
