@@ -1,0 +1,15 @@
+pub mod Meaning
+pub mod Ring
+pub mod Least
+pub mod Ranks
+pub mod Vacancy
+pub mod Weighing
+pub mod Walking
+pub mod Pushing
+pub mod Pulling
+pub mod Seeking
+pub mod Candidates
+pub mod Placing
+pub mod Reading
+pub mod Calling
+pub mod Rebuilding

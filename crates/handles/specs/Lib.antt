@@ -1,0 +1,9 @@
+pub mod Meaning
+pub mod Slots
+pub mod Walk
+pub mod Shift
+pub mod Carry
+pub mod Seek
+pub mod Refusal
+pub mod Kinds
+pub mod Calls
