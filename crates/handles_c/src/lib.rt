@@ -129,7 +129,8 @@ fn drain(table: &mut Table<'_, Place>, hashes: &[u64]) {
     }
 }
 
-/// For timing: fills a table of `count` slots `rounds` times, drains it too for kind 1, or reads it for kind 2.
+/// For timing: clears and fills a table of `count` slots `rounds` times, drains and fills it for kind 1, reads it for
+/// kind 2, or clears it for kind 3.
 #[unsafe(no_mangle)]
 pub extern "C" fn handles_time(kind: u32, count: usize, hashes: &[u64], rounds: usize) -> u64 {
     if count > MOST {
@@ -149,11 +150,12 @@ pub extern "C" fn handles_time(kind: u32, count: usize, hashes: &[u64], rounds: 
                 drain(&mut table, hashes);
                 fill(&mut table, hashes);
             }
-            _ => {
+            2 => {
                 for hash in hashes {
                     sum = sum.wrapping_add(read_sum(&table, *hash));
                 }
             }
+            _ => table.clear(),
         }
     }
     sum.wrapping_add(table.len() as u64)

@@ -221,9 +221,11 @@ fn time() {
                     .fold(f64::MAX, f64::min);
                 per(best)
             };
-            let (fill, drain, get) = (ours(0), ours(1), ours(2));
-            let (rust_fill, rust_drain, rust_get) = (theirs(0), theirs(1), theirs(2));
-            let (remove, rust_remove) = (drain - fill, rust_drain - rust_fill);
+            // An insertion is a clear and a fill less the clear; a removal is a drain and a fill less the fill.
+            let (clear, get) = (ours(3), ours(2));
+            let (rust_clear, rust_get) = (theirs(3), theirs(2));
+            let (fill, rust_fill) = (ours(0) - clear, theirs(0) - rust_clear);
+            let (remove, rust_remove) = (ours(1) - fill, theirs(1) - rust_fill);
             println!(
                 "{n} {name} {fill:.2} {rust_fill:.2} {:.2} {remove:.2} {rust_remove:.2} {:.2} {get:.2} {rust_get:.2} {:.2}",
                 fill / rust_fill, remove / rust_remove, get / rust_get
@@ -253,11 +255,12 @@ fn rust_time(kind: u32, n: usize, hashes: &[u64], rounds: usize) -> u64 {
                 }
                 fill(&mut table);
             }
-            _ => {
+            2 => {
                 for hash in hashes {
                     sum = sum.wrapping_add(read_sum(&table, *hash));
                 }
             }
+            _ => std::hint::black_box(&mut table).empty_all(),
         }
     }
     sum.wrapping_add(table.len() as u64)
