@@ -16,9 +16,9 @@ returns g c =
     let hash = c .args .hash in
     let x = c .args .handle in
     let found : c .is-some .result ≡ ltb 0 (times-read mean (candidates xs hash) (mean x)) =
-        c .is-some .ensures ∙ ap isSome (c .find .ensures) ∙ some-first (λ y. alike (mean y) (mean x)) (candidates xs hash) in
+    c .is-some .ensures ∙ ap isSome (c .find .ensures) ∙ some-first (λ y. alike (mean y) (mean x)) (candidates xs hash) in
     record {
       counted = λ start past is. found ∙ ap (λ ys. ltb 0 (times-read mean (candidates ys hash) (mean x))) (sym is) ∙ ap (ltb 0) (reads mean start past hash (mean x));
       stays = λ start earlier later is free spare.
-        found ∙ ap (λ ys. ltb 0 (times-read mean (candidates ys hash) (mean x))) (sym is) ∙ some-when _ (stays mean start earlier later hash x free spare)
+          found ∙ ap (λ ys. ltb 0 (times-read mean (candidates ys hash) (mean x))) (sym is) ∙ some-when _ (stays mean start earlier later hash x free spare);
     }

@@ -12,9 +12,10 @@ use Rattle.keys.proofs.named.NamedKey.spelling.Needs as need
 -- past a list's end nothing more is taken
 take-capped : (xs : List ℕ) (m n : ℕ) → m ≡ min (length xs) n → take (m - 0) xs ≡ take n xs
 take-capped xs m n e =
-    elim (cases-lt (length xs) n)
-      [ inl h ↦ take-all (m - 0) xs (omega arith) ∙ sym (take-all n xs (omega arith))
-      | inr h ↦ ap (λ k. take k xs) (omega arith) ]
+    elim (cases-lt (length xs) n) [
+      | inl h ↦ take-all (m - 0) xs (omega arith) ∙ sym (take-all n xs (omega arith))
+      | inr h ↦ ap (λ k. take k xs) (omega arith)
+    ]
 
 pub returns : need.returns
 returns c =
