@@ -1,0 +1,10 @@
+pub mod Counts
+pub mod Paths
+pub mod Moves
+pub mod Laid
+pub mod Steps
+pub mod Whole
+pub mod Pushes
+pub mod Found
+pub mod Members
+pub mod Ends

@@ -1,0 +1,6 @@
+pub mod Keeps
+pub mod Outs
+pub mod Frees
+pub mod Readiness
+pub mod Fits
+pub mod Seats

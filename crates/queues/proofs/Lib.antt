@@ -1,0 +1,14 @@
+pub mod Maps
+pub mod Sound
+pub mod Moved
+pub mod Located
+pub mod Hit
+pub mod Released
+pub mod Unlocked
+pub mod Ages
+pub mod Ends
+pub mod ToMain
+pub mod Tail
+pub mod Turns
+pub mod Seating
+pub mod Alone

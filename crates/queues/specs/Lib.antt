@@ -1,0 +1,5 @@
+pub mod State
+pub mod Slots
+pub mod Held
+pub mod Steps
+pub mod Seats
