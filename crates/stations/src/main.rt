@@ -32,6 +32,14 @@ fn tell(
     Ok(())
 }
 
+/// The text of a sheet's file.
+fn read_sheet(rt: &LibcRuntime, path: &str) -> Result<String, AnyError> {
+    match fs::read_to_string(rt, path) {
+        Ok(text) => Ok(text),
+        Err(error) => Err(format!(rt.alloc(), "cannot read sheet={path}: {error}")?.into()),
+    }
+}
+
 /// Does what the words of the command line say, one after another.
 fn run(rt: &LibcRuntime) -> Result<(), AnyError> {
     let mut kind = None;
@@ -43,7 +51,7 @@ fn run(rt: &LibcRuntime) -> Result<(), AnyError> {
                 kind = Some(read_kind(name).ok_or("the kinds are kind=number and kind=name")?);
             }
             Word::Sheet(path) => {
-                sheet = Some(fs::read_to_string(rt, path)?);
+                sheet = Some(read_sheet(rt, path)?);
             }
             Word::Key(key) => {
                 tell(rt, kind, &sheet, key)?;
