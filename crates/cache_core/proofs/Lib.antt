@@ -1,0 +1,12 @@
+pub mod Standing
+pub mod Looked
+pub mod Leaving
+pub mod Arrived
+pub mod Tying
+pub mod Ghosts
+pub mod Forgot
+pub mod Filings
+pub mod Readied
+pub mod Admitted
+pub mod Admits
+pub mod Residing
