@@ -12,7 +12,8 @@ use Rattle.std.specs.declared.option.Option.the-variants.{Some, None}
 use Rattle.machine.specs.declared.report.Part.{Part}
 use Rattle.machine.specs.declared.report.Report.{Report}
 use Rattle.machine.specs.Replacement.{Parts, Vacated, vacated, seated, forgets}
-use Rattle.machine.specs.Machine.{State, same, has, cellOf, arrival, settled, reportOf}
+use Rattle.machine.specs.Machine.{State, same, has, cellOf, lays, arrival, settled, reportOf}
+use Rattle.handles.specs.Seek.{first-by}
 use Rattle.handle_laws.specs.Runs.{how-many}
 use Rattle.ghosts.specs.declared.noted.Noted.{Noted}
 use Rattle.policy.specs.declared.policy.Policy.{Policy}
@@ -35,7 +36,7 @@ use Rattle.cache_core.specs.Admitting.{Absent, Admitted}
 use Rattle.cache_core.proofs.Standing.{Orderly, orderly}
 use Rattle.cache_core.proofs.Tying.{places-seated}
 use Rattle.cache_core.proofs.Readied.{Ready}
-use Rattle.cache_core.proofs.Admitted.{readied, admitted-tied, admitted-state, admitted-report}
+use Rattle.cache_core.proofs.Admitted.{readied, admitted-tied, admitted-resides, admitted-settles, admitted-state, admitted-report}
 
 module _ {K V : Type 0} (mean : K → List ℕ) (hashed : List ℕ → ℕ) where
   departs-policy : (x y : Inner K V) (place : ℕ) (noted : Option Noted) (left : Option Part) → Departs mean hashed x place noted left y → y .policy ≡ x .policy
@@ -118,6 +119,14 @@ module _ {K V : Type 0} (mean : K → List ℕ) (hashed : List ℕ → ℕ) wher
           report = λ d.
               sym (ap reportOf (arrives d))
               ∙ admitted-report mean hashed c known s (r .place) node rs (x₂ .residents) (x₂ .remembered) key tied (done .place) after within no-resident no-ghost (x₃ .records .now) (y .records .now) (x₃ .residents) (x₃ .remembered) (y .residents) ready (seats h) d r refl (done .joined) (done .left) (done .chances);
+          settles = λ d v′.
+              ap (λ (p : Parts ℕ ℕ ℕ). lays (mean key) v′ (seen mean d (y .records .now) p)) parts-same
+              ∙ (admitted-settles mean hashed c known s (r .place) node rs (x₂ .residents) (x₂ .remembered) key tied (done .place) after within no-resident no-ghost (x₃ .records .now) (y .records .now) (x₃ .residents) (x₃ .remembered) (y .residents) ready (seats h) d v′
+              ∙ (ap (settled c (mean key) v′) (arrives d)
+              ∙ ap (λ (n : ℕ). settled n (mean key) v′ (arrival (x .policy .core .capacity) (mean key) (state mean d x))) (kept .2)));
+          resides =
+              subst (λ (t : Parts ℕ ℕ ℕ). Some (r .place) ≡ first-by (bears (word-at mean Resident (y .records .now)) (mean key)) (places t)) (sym parts-same)
+              (admitted-resides mean hashed c known s (r .place) node rs (x₂ .residents) (x₂ .remembered) key tied (done .place) after within no-resident no-ghost (x₃ .records .now) (y .records .now) (x₃ .residents) (x₃ .remembered) (y .residents) ready (seats h));
           tied =
               subst (λ (n : ℕ). Tied mean hashed n (y .records .now) (view (y .policy .core)) (y .residents) (y .remembered)) (sym (ap (λ (q : Policy). q .core .capacity) policy-same ∙ sized))
               (subst (λ (t : Parts ℕ ℕ ℕ). Tied mean hashed c (y .records .now) t (y .residents) (y .remembered)) (sym parts-same)

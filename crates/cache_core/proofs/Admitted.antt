@@ -14,7 +14,7 @@ use Rattle.machine.specs.declared.report.Part.{Part}
 use Rattle.machine.specs.declared.report.Part.the-variants.{Small, Main}
 use Rattle.machine.specs.declared.report.Report.{Report}
 use Rattle.machine.specs.Replacement.{Parts, Vacated, vacated, seated}
-use Rattle.machine.specs.Machine.{Item, Cell, settled, reportOf, placeOf}
+use Rattle.machine.specs.Machine.{Item, Cell, same, lays, settled, reportOf, placeOf}
 use Rattle.handle_laws.specs.Runs.{how-many}
 use Rattle.ghosts.specs.declared.noted.Noted.{Noted}
 use Rattle.policy.specs.declared.plan.Inserted.{Inserted}
@@ -22,17 +22,21 @@ use Rattle.policy.specs.Insertion.{placeAt, nodeOf, Told, Done}
 use Rattle.index.specs.declared.index.KeyIndex.{KeyIndex}
 use Rattle.index.specs.Filed.{is-key, bears}
 use Rattle.index.specs.Ties.{occurs, Ties}
-use Rattle.index.proofs.Firsts.{counts-one}
+use Rattle.handles.specs.Seek.{first-by}
+use Rattle.handles.proofs.Meaning.{alike-decides}
+use Rattle.index.proofs.Firsts.{counts-one, first-only, stands-counts}
 use Rattle.index.proofs.Joined.{Alike, alike-length, same-count, ties-laid}
 use Rattle.records.specs.declared.column.Column.the-variants.{Resident as ofResident, Remembered as ofGhost}
 use Rattle.records.specs.declared.record.Record.{Record}
 use Rattle.records.specs.Columns.{key-at, word-at, keyed}
 use Rattle.records.proofs.Keyed.{keyed-length, key-here, key-elsewhere, remembered-stays}
 use Rattle.cache_core.specs.declared.inner.Inner.{Inner}
-use Rattle.cache_core.specs.View.{places, or-empty, value-at, word-in, cell-at, seen}
+use Rattle.cache_core.specs.View.{places, or-empty, value-at, word-in, item-at, cell-at, seen}
 use Rattle.cache_core.specs.Tied.{Tied}
 use Rattle.cache_core.specs.Filing.{Laid}
 use Rattle.cache_core.specs.Departing.{Departs}
+use Rattle.cache_core.proofs.Looked.{same-bears}
+use Rattle.cache_core.proofs.Settled.{settles}
 use Rattle.cache_core.proofs.Standing.{Orderly, same-occurs}
 use Rattle.cache_core.proofs.Leaving.{Leaves, leaves, from-small}
 use Rattle.cache_core.proofs.Arrived.{meant, arrived, place-carried, value-keyed, word-keyed, word-laid, ghost-keyed}
@@ -129,6 +133,16 @@ module _ {K V : Type 0} (mean : K → List ℕ) (hashed : List ℕ → ℕ) (c :
     pub admitted-tied : Tied mean hashed c qs′ (seated c v place) i″ j′
     admitted-tied = subst (λ (l : List (Record K V)). Tied mean hashed c l (seated c v place) i″ j′) (sym (done .0)) laid-tied
 
+    -- the newcomer is found in its place
+    pub admitted-resides : Some place ≡ first-by (bears (word-at mean ofResident qs′) (mean key)) (places (seated c v place))
+    admitted-resides =
+        let its : word-at mean ofResident qs′ place ≡ Some (mean key) =
+        ap (λ (l : List (Record K V)). word-at mean ofResident l place) (done .0) ∙ ap (mapped mean) (key-here ofResident qs place key within-qs) in
+        let b : bears (word-at mean ofResident qs′) (mean key) place ≡ true = ap (is-key (mean key)) its ∙ alike-decides (mean key) (mean key) .1 refl in
+        let a = places-seated c place v place in
+        let h = counts-one (eqb place place) (eq-eqb place place refl) in
+        first-only (bears (word-at mean ofResident qs′) (mean key)) (places (seated c v place)) place b (omega arith) (admitted-tied .residents .apart (mean key))
+
     pub admitted-state : (d : V) → seen mean d qs′ (seated c v place) ≡ settled c (mean key) (value-at d rs place) (meant mean d c known s node rs)
     admitted-state d =
         ap (λ (l : List (Record K V)). seen mean d l (seated c v place)) (done .0)
@@ -137,6 +151,30 @@ module _ {K V : Type 0} (mean : K → List ℕ) (hashed : List ℕ → ℕ) (c :
         (ghost-keyed mean qs place key)
         (λ q. value-keyed d ofResident qs place key q ∙ ready .values d q)
         (word-laid mean ofResident qs place key within-qs)
+
+    -- no other resident has the newcomer's key
+    differs : (q : ℕ) → 0 < occurs q (places (v .parts)) → same (mean key) (word-in mean ofResident rs q) ≡ false
+    differs q some =
+        let a = places-seated c place v q in
+        let low = after .within q (omega arith) in
+        let top = after .opened in
+        let z = t .sized in
+        same-bears mean ofResident rs (mean key) q (omega arith) ∙ lacks (bears (word-at mean ofResident rs) (mean key) q) refl
+      where
+        lacks : (b : Bool) → bears (word-at mean ofResident rs) (mean key) q ≡ b → b ≡ false
+        lacks false h = refl
+        lacks true h =
+            absurd (let k = stands-counts (bears (word-at mean ofResident rs) (mean key)) (places (v .parts)) q h some in
+            let b = count-left c node s v (leaves c node s known) (bears (word-at mean ofResident rs) (mean key)) in
+            omega arith)
+
+    -- and with a value laid in its place, it is seated with that value
+    pub admitted-settles : (d x : V) → lays (mean key) x (seen mean d qs′ (seated c v place)) ≡ settled c (mean key) x (meant mean d c known s node rs)
+    admitted-settles d x =
+        ap (lays (mean key) x) (admitted-state d)
+        ∙ (ap (λ (a : Vacated (Item V) (List ℕ) (Cell V)). lays (mean key) x (settled c (mean key) (value-at d rs place) a)) (ready .first d)
+        ∙ (settles (mean key) x (item-at mean d rs) (word-in mean ofGhost qs) (cell-at mean d rs) c (value-at d rs place) v differs
+        ∙ ap (settled c (mean key) x) (sym (ready .first d))))
 
     -- what the report tells
     pub admitted-report : (d : V) (r : Inserted) → r .place ≡ place → r .joined ≡ v .joins → r .vacancy .left ≡ v .left → r .vacancy .chances ≡ v .chances → reportOf (meant mean d c known s node rs) ≡ record { place = r .place; joined = r .joined; left = r .vacancy .left; chances = r .vacancy .chances }

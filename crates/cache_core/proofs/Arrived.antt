@@ -51,7 +51,7 @@ module _ {K V : Type 0} where
 
 -- ## Carrying by functions that agree
 
-map-agree : {B : Type 0} (f g : ℕ → B) (xs : List ℕ) → ((q : ℕ) → f q ≡ g q) → map f xs ≡ map g xs
+pub map-agree : {B : Type 0} (f g : ℕ → B) (xs : List ℕ) → ((q : ℕ) → f q ≡ g q) → map f xs ≡ map g xs
 map-agree f g [] same = refl
 map-agree f g (x ∷ xs) same = let a = same x in let b = map-agree f g xs same in cc
 

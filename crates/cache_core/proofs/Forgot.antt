@@ -23,24 +23,21 @@ use Rattle.handle_laws.proofs.Totals.{first-none}
 use Rattle.index.specs.declared.index.KeyIndex.{KeyIndex}
 use Rattle.index.specs.Filed.{is-key, bears}
 use Rattle.index.specs.Ties.{occurs, Ties}
-use Rattle.index.proofs.Firsts.{counts-one, not-both, first-only, first-passes}
-use Rattle.index.proofs.Tied.{key-is}
+use Rattle.index.proofs.Firsts.{counts-one, not-both}
 use Rattle.index.proofs.Joined.{Alike, alike-count, alike-kept, counts-none}
 use Rattle.records.specs.declared.column.Column.the-variants.{Resident as ofResident, Remembered as ofGhost}
 use Rattle.records.specs.declared.record.Record.{Record}
 use Rattle.records.specs.Columns.{word-at}
 use Rattle.cache_core.specs.View.{places, word-in, item-at, cell-at, seen}
 use Rattle.cache_core.specs.Tied.{Tied}
-use Rattle.cache_core.proofs.Looked.{here, same-bears}
+use Rattle.cache_core.proofs.Looked.{here}
+use Rattle.cache_core.proofs.Only.{passes, its-word, only}
 use Rattle.cache_core.proofs.Standing.{Orderly, same-occurs}
 use Rattle.cache_core.proofs.Ghosts.{others}
 
 all-from : (P : ℕ → Type 0) (xs : List ℕ) → ((q : ℕ) → 0 < occurs q xs → P q) → All P xs
 all-from P [] h = tt
 all-from P (x ∷ xs) h = (h x (here x xs), all-from P xs (λ q some. h q (omega arith)))
-
-some-inj : (a b : ℕ) → Some a ≡ Some b → a ≡ b
-some-inj a b e = let q : a ≡ b = cc in q
 
 -- a node that stands in a list is held
 pub holds-node : (node : ℕ) (xs : List ℕ) → 0 < occurs node xs → not (eqb (rows.occurs node xs) 0) ≡ true
@@ -67,34 +64,23 @@ module _ {K V : Type 0} (mean : K → List ℕ) (rs : List (Record K V)) (w : Li
       (sym (none-forgotten w (map (word-in mean ofGhost rs) (s .remembered)) e))
 
   module _ (hashed : List ℕ → ℕ) (c : ℕ) (s : Parts ℕ ℕ ℕ) (i j : KeyIndex) (node : ℕ) (t : Tied mean hashed c rs s i j) (o : Orderly c s) (within : (q : ℕ) → 0 < occurs q (s .remembered) → q < length rs) (found : Some node ≡ first-by (bears lying w) (s .remembered)) where
-    passes : (bears lying w node ≡ true) × (0 < occurs node (s .remembered))
-    passes = let f = first-passes (bears lying w) (s .remembered) node (sym found) in (f .0, f .1 (eqb node) (eq-eqb node node refl))
+    there : (bears lying w node ≡ true) × (0 < occurs node (s .remembered))
+    there = passes mean ofGhost rs w (s .remembered) node found
 
     pub node-there : 0 < occurs node (s .remembered)
-    node-there = passes .1
+    node-there = there .1
 
     pub node-word : lying node ≡ Some w
-    node-word = key-is w (lying node) (passes .0)
+    node-word = its-word mean ofGhost rs w (s .remembered) node found
 
     pub node-apart : Alike (s .remembered) (node ∷ others node (s .remembered))
-    node-apart = alike-kept node (s .remembered) (let a = o .noted-once node in let b = passes .1 in omega arith)
-
-    only : (q : ℕ) → 0 < occurs q (s .remembered) → same w (word-in mean ofGhost rs q) ≡ eqb q node
-    only q some = same-bears mean ofGhost rs w q (within q some) ∙ decide (eqb-tells q node)
-      where
-        lacks : (b : Bool) → bears lying w q ≡ b → (q ≡ node → ⊥) → b ≡ false
-        lacks false h ne = refl
-        lacks true h ne = absurd (ne (some-inj q node (first-only (bears lying w) (s .remembered) q h some (t .remembered .apart w) ∙ sym found)))
-
-        decide : ((eqb q node ≡ true) × (q ≡ node)) ⊎ ((eqb q node ≡ false) × (q ≡ node → ⊥)) → bears lying w q ≡ eqb q node
-        decide (inl e) = ap (bears lying w) (e .1) ∙ (passes .0 ∙ sym (e .0))
-        decide (inr e) = lacks (bears lying w q) refl (e .1) ∙ sym (e .0)
+    node-apart = alike-kept node (s .remembered) (let a = o .noted-once node in let b = there .1 in omega arith)
 
     -- the machine forgets the key
     pub forgets-node : (d : V) → seen mean d rs (forgets (λ q. eqb q node) s) ≡ forgets (same w) (seen mean d rs s)
     forgets-node d =
         forgets-carried (item-at mean d rs) (word-in mean ofGhost rs) (cell-at mean d rs) (λ q. eqb q node) (same w) s
-        (all-from (λ q. same w (word-in mean ofGhost rs q) ≡ eqb q node) (s .remembered) only)
+        (all-from (λ q. same w (word-in mean ofGhost rs q) ≡ eqb q node) (s .remembered) (only mean ofGhost rs w (s .remembered) node found within (t .remembered .apart w)))
 
     -- and the indexes are right after
     pub forgets-tied : (j′ : KeyIndex) → Ties hashed lying (others node (s .remembered)) j′ → Tied mean hashed c rs (forgets (λ q. eqb q node) s) i j′ × (how-many (bears lying w) (others node (s .remembered)) ≡ 0)
@@ -110,6 +96,6 @@ module _ {K V : Type 0} (mean : K → List ℕ) (rs : List (Record K V)) (w : Li
       },
       (let a = t .remembered .apart w in
           let b = alike-count (bears lying w) (s .remembered) (node ∷ others node (s .remembered)) node-apart in
-          let e = counts-one (bears lying w node) (passes .0) in
+          let e = counts-one (bears lying w node) (there .0) in
           omega arith),
     )

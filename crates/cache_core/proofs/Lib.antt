@@ -1,5 +1,6 @@
 pub mod Standing
 pub mod Looked
+pub mod Only
 pub mod Leaving
 pub mod Arrived
 pub mod Tying
@@ -7,6 +8,9 @@ pub mod Ghosts
 pub mod Forgot
 pub mod Filings
 pub mod Readied
+pub mod Settled
 pub mod Admitted
 pub mod Admits
 pub mod Residing
+pub mod Valued
+pub mod Cleared

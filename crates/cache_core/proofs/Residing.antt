@@ -22,15 +22,14 @@ use Rattle.handle_laws.specs.Runs.{how-many}
 use Rattle.index.specs.declared.index.KeyIndex.{KeyIndex}
 use Rattle.index.specs.Filed.{is-key, bears}
 use Rattle.index.specs.Ties.{occurs, Ties}
-use Rattle.index.proofs.Firsts.{counts-one, not-both, first-only, first-passes}
-use Rattle.index.proofs.Tied.{key-is}
 use Rattle.index.proofs.Joined.{Alike, alike-count, alike-kept, counts-none, ties-alike}
 use Rattle.records.specs.declared.column.Column.the-variants.{Resident as ofResident, Remembered as ofGhost}
 use Rattle.records.specs.declared.record.Record.{Record}
 use Rattle.records.specs.Columns.{word-at}
 use Rattle.cache_core.specs.View.{places, word-in, item-at, cell-at, seen}
 use Rattle.cache_core.specs.Tied.{Tied}
-use Rattle.cache_core.proofs.Looked.{here, same-bears}
+use Rattle.cache_core.proofs.Looked.{here}
+use Rattle.cache_core.proofs.Only.{passes, its-word, only}
 use Rattle.cache_core.proofs.Standing.{Orderly}
 use Rattle.cache_core.proofs.Leaving.{items, items-append}
 use Rattle.cache_core.proofs.Ghosts.{others}
@@ -38,9 +37,6 @@ use Rattle.cache_core.proofs.Ghosts.{others}
 all-items : (P : ℕ → Type 0) (xs : List (Resident ℕ)) → ((q : ℕ) → 0 < occurs q (items xs) → P q) → All (λ r. P (r .item)) xs
 all-items P [] h = tt
 all-items P (x ∷ xs) h = (h (x .item) (here (x .item) (items xs)), all-items P xs (λ q some. h q (omega arith)))
-
-some-inj : (a b : ℕ) → Some a ≡ Some b → a ≡ b
-some-inj a b e = let q : a ≡ b = cc in q
 
 items-hit : (at : ℕ → Bool) (xs : List (Resident ℕ)) → items (map (hit at) xs) ≡ items xs
 items-hit at [] = refl
@@ -101,34 +97,26 @@ module _ {K V : Type 0} (mean : K → List ℕ) (rs : List (Record K V)) (w : Li
   abbrev lying : ℕ → Option (List ℕ)
   lying = word-at mean ofResident rs
 
-  passes : (bears lying w place ≡ true) × (0 < occurs place (places s))
-  passes = let f = first-passes (bears lying w) (places s) place (sym found) in (f .0, f .1 (eqb place) (eq-eqb place place refl))
+  there : (bears lying w place ≡ true) × (0 < occurs place (places s))
+  there = passes mean ofResident rs w (places s) place found
 
   pub place-there : 0 < occurs place (places s)
-  place-there = passes .1
+  place-there = there .1
 
   pub place-word : lying place ≡ Some w
-  place-word = key-is w (lying place) (passes .0)
+  place-word = its-word mean ofResident rs w (places s) place found
 
   pub place-apart : Alike (places s) (place ∷ others place (places s))
-  place-apart = alike-kept place (places s) (let a = o .once place in let b = passes .1 in omega arith)
+  place-apart = alike-kept place (places s) (let a = o .once place in let b = there .1 in omega arith)
 
-  only : (q : ℕ) → 0 < occurs q (places s) → same w (word-in mean ofResident rs q) ≡ eqb q place
-  only q some = same-bears mean ofResident rs w q (within q some) ∙ decide (eqb-tells q place)
-    where
-      lacks : (b : Bool) → bears lying w q ≡ b → (q ≡ place → ⊥) → b ≡ false
-      lacks false h ne = refl
-      lacks true h ne = absurd (ne (some-inj q place (first-only (bears lying w) (places s) q h some (t .residents .apart w) ∙ sym found)))
-
-      decide : ((eqb q place ≡ true) × (q ≡ place)) ⊎ ((eqb q place ≡ false) × (q ≡ place → ⊥)) → bears lying w q ≡ eqb q place
-      decide (inl e) = ap (bears lying w) (e .1) ∙ (passes .0 ∙ sym (e .0))
-      decide (inr e) = lacks (bears lying w q) refl (e .1) ∙ sym (e .0)
+  pub only-place : (q : ℕ) → 0 < occurs q (places s) → same w (word-in mean ofResident rs q) ≡ eqb q place
+  only-place = only mean ofResident rs w (places s) place found within (t .residents .apart w)
 
   small-only : All (λ r. same w (word-in mean ofResident rs (r .item)) ≡ eqb (r .item) place) (s .small)
-  small-only = all-items (λ q. same w (word-in mean ofResident rs q) ≡ eqb q place) (s .small) (λ q some. only q (let a = items-append q (s .small) (s .main) in omega arith))
+  small-only = all-items (λ q. same w (word-in mean ofResident rs q) ≡ eqb q place) (s .small) (λ q some. only-place q (let a = items-append q (s .small) (s .main) in omega arith))
 
   main-only : All (λ r. same w (word-in mean ofResident rs (r .item)) ≡ eqb (r .item) place) (s .main)
-  main-only = all-items (λ q. same w (word-in mean ofResident rs q) ≡ eqb q place) (s .main) (λ q some. only q (let a = items-append q (s .small) (s .main) in omega arith))
+  main-only = all-items (λ q. same w (word-in mean ofResident rs q) ≡ eqb q place) (s .main) (λ q some. only-place q (let a = items-append q (s .small) (s .main) in omega arith))
 
   pub uses-place : (d : V) → seen mean d rs (uses (λ q. eqb q place) s) ≡ uses (isAt w) (seen mean d rs s)
   uses-place d =

@@ -5,7 +5,7 @@ use Prim.Native.Nat.{ℕ}
 use Rattle.std.specs.declared.option.Option.{Option}
 use Rattle.std.specs.declared.option.Option.the-variants.{Some, None}
 use Rattle.handle_laws.specs.Runs.{how-many}
-use Rattle.machine.specs.Machine.{arrival, settled, reportOf}
+use Rattle.machine.specs.Machine.{lays, arrival, settled, reportOf}
 use Rattle.index.specs.Filed.{bears}
 use Rattle.policy.specs.View.{view}
 use Rattle.policy.specs.declared.plan.Inserted.{Inserted}
@@ -13,7 +13,7 @@ use Rattle.records.specs.declared.column.Column.the-variants.{Resident}
 use Rattle.records.specs.Columns.{word-at}
 use Rattle.cache_core.specs.declared.inner.Inner.{Inner}
 use Rattle.cache_core.specs.View.{places, value-at, state}
-use Rattle.cache_core.specs.Tied.{Tied-inner}
+use Rattle.cache_core.specs.Tied.{Tied-inner, Resides}
 
 module _ {K V : Type 0} (mean : K → List ℕ) (hashed : List ℕ → ℕ) where
   -- no resident has this key
@@ -23,7 +23,10 @@ module _ {K V : Type 0} (mean : K → List ℕ) (hashed : List ℕ → ℕ) wher
   -- the machine's state and report, and the indexes right
   pub record Admitted (x : Inner K V) (word : List ℕ) (r : Inserted) (y : Inner K V) : Type 0 where
     pub next : (d : V) → state mean d y ≡ settled (x .policy .core .capacity) word (value-at d (x .records .now) (r .place)) (arrival (x .policy .core .capacity) word (state mean d x))
+    -- and with any value laid in the newcomer's place after
+    pub settles : (d v : V) → lays word v (state mean d y) ≡ settled (x .policy .core .capacity) word v (arrival (x .policy .core .capacity) word (state mean d x))
     pub report : (d : V) → reportOf (arrival (x .policy .core .capacity) word (state mean d x)) ≡ record { place = r .place; joined = r .joined; left = r .vacancy .left; chances = r .vacancy .chances }
+    pub resides : Resides mean hashed word (r .place) y
     pub tied : Tied-inner mean hashed y
 
   abbrev pub Admits : Inner K V → ℕ → List ℕ → Option Inserted → Inner K V → Type 0

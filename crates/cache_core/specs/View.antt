@@ -27,6 +27,12 @@ module _ {K V : Type 0} where
   value-at d (r ∷ rs) zero = r .value
   value-at d (r ∷ rs) (suc p) = value-at d rs p
 
+  -- the records with another value in a place
+  abbrev pub valued : List (Record K V) → ℕ → V → List (Record K V)
+  valued [] p v = []
+  valued (r ∷ rs) zero v = record { key = r .key; value = v; remembered = r .remembered } ∷ rs
+  valued (r ∷ rs) (suc p) v = r ∷ valued rs p v
+
   module _ (mean : K → List ℕ) where
     -- the meaning of the key in a place
     abbrev pub word-in : Column → List (Record K V) → ℕ → List ℕ
