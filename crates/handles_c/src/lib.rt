@@ -22,7 +22,7 @@ pub struct Op {
 }
 
 /// The candidates of a hash as one number that depends on each and on their order.
-pub fn read_sum(table: &Table<'_, Place>, hash: u64) -> u64 {
+fn read_sum(table: &Table<'_, Place>, hash: u64) -> u64 {
     let mut sum = 0u64;
     for place in table.get(hash) {
         sum = sum.wrapping_mul(65599).wrapping_add(place.0 as u64 + 1);
@@ -31,7 +31,7 @@ pub fn read_sum(table: &Table<'_, Place>, hash: u64) -> u64 {
 }
 
 /// Makes one call that brings no slots; a refusal answers 100 and its number.
-pub fn apply(table: &mut Table<'_, Place>, op: Op) -> u64 {
+fn apply(table: &mut Table<'_, Place>, op: Op) -> u64 {
     match op.kind {
         0 => match table.insert(op.hash, Place(op.place)) {
             Ok(()) => 1,
