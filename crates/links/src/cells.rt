@@ -21,7 +21,7 @@ pub struct Cells {
 }
 
 /// Takes a node out of its list.
-pub fn detach(cells: &mut Cells, node: u16)
+pub(crate) fn detach(cells: &mut Cells, node: u16)
     requires inside { ⌜ node < 512 ⌝ }
     requires before { ⌜ (getD (now cells .home) node 0 < 4 → getD (now cells .prev) node 0 < 517) ⌝ }
     requires after { ⌜ (getD (now cells .home) node 0 < 4 → getD (now cells .next) node 0 < 517) ⌝ }
@@ -40,7 +40,7 @@ pub fn detach(cells: &mut Cells, node: u16)
 }
 
 /// Puts a node that is in no list between two neighbours of a list.
-pub fn attach(cells: &mut Cells, node: u16, before: u16, after: u16, list: u8)
+pub(crate) fn attach(cells: &mut Cells, node: u16, before: u16, after: u16, list: u8)
     requires inside { ⌜ node < 512 ⌝ }
     requires left { ⌜ before < 517 ⌝ }
     requires right { ⌜ after < 517 ⌝ }
