@@ -11,8 +11,8 @@ returns g c =
     let xs = c.args.table.now.inner.slots.now in
     let hash = c.args.hash in
     let x = c.args.handle in
-    let found : c.is-some.result ≡ ltb 0 (times_read mean (candidates xs hash) (mean x)) =
-    c.is-some.ensures ∙ ap is_some c.find.ensures ∙ some_first (λ y. alike (mean y) (mean x)) (candidates xs hash) in
+    let found : c.is_some.result ≡ ltb 0 (times_read mean (candidates xs hash) (mean x)) =
+    c.is_some.ensures ∙ ap is_some c.find.ensures ∙ some_first (λ y. alike (mean y) (mean x)) (candidates xs hash) in
     record {
       counted = λ start past is. found ∙ ap (λ ys. ltb 0 (times_read mean (candidates ys hash) (mean x))) (sym is) ∙ ap (ltb 0) (reads mean start past hash (mean x));
       stays = λ start earlier later is free spare.

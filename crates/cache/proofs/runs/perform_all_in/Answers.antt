@@ -12,12 +12,12 @@ calls-init g c = (
 pub calls-preserved : goal.calls-preserved
 calls-preserved g c =
     let inv = c.calls.invariant in
-    let p = c.perform-in-answer.ensures in (
+    let p = c.perform_in-answer.ensures in (
       inv.0,
       rw add-one
-          (subst (λ (l : List (Answer g.row.V.Denot)). Midway {K = g.row.K.Denot} {V = g.row.V.Denot} {R = g.row.R.Denot} g.K.Key.meaning g.K.HashedKey.hashed g.R.KeepRule.keeps (g.L.Loader.given c.args.loader.now) c.args.inner.now c.args.calls.now c.args.answers.now c.min-count.result inv.0 (suc c.calls.i) l (g.L.Loader.given c.perform-in-answer.new.loader) c.perform-in-answer.new.inner) (sym c.lay-answer.ensures)
+          (subst (λ (l : List (Answer g.row.V.Denot)). Midway {K = g.row.K.Denot} {V = g.row.V.Denot} {R = g.row.R.Denot} g.K.Key.meaning g.K.HashedKey.hashed g.R.KeepRule.keeps (g.L.Loader.given c.args.loader.now) c.args.inner.now c.args.calls.now c.args.answers.now c.min-count.result inv.0 (suc c.calls.i) l (g.L.Loader.given c.perform_in-answer.new.loader) c.perform_in-answer.new.inner) (sym c.lay_answer.ensures)
           (turn {K = g.row.K.Denot} {V = g.row.V.Denot} {R = g.row.R.Denot} g.K.Key.meaning g.K.HashedKey.hashed g.R.KeepRule.keeps (g.L.Loader.given c.args.loader.now) c.args.inner.now c.args.calls.now c.args.answers.now c.min-count.result inv.0
-          c.calls.i c.calls-test.true c.calls.answers (g.L.Loader.given c.calls.loader) (g.L.Loader.given c.perform-in-answer.new.loader) c.calls.inner c.perform-in-answer.new.inner c.index-calls-i.result c.perform-in-answer.result c.index-calls-i.is inv.1
+          c.calls.i c.calls-test.true c.calls.answers (g.L.Loader.given c.calls.loader) (g.L.Loader.given c.perform_in-answer.new.loader) c.calls.inner c.perform_in-answer.new.inner c.index-calls-i.result c.perform_in-answer.result c.index-calls-i.is inv.1
           p.does p.records p.meaning p.capacity)),
     )
 

@@ -15,11 +15,11 @@ returns-in-None g c =
     let x = c.args.inner.now in
     let rs = x.records.now in
     let cap = x.policy.core.capacity in
-    let y = c.claim-place-value.new.inner in
-    let r = c.claim-place-value.result in
+    let y = c.claim_place-value.new.inner in
+    let r = c.claim_place-value.result in
     let h = c.hash-hash.ensures in
     let f = c.in-None.ensures in
-    let b = c.claim-place-value.ensures in
+    let b = c.claim_place-value.ensures in
     let pos : 1 ≤ cap = (let z = c.if-capacity-eq0.false in let e = c.capacity.ensures in omega arith) in
     record {
       does = λ t.

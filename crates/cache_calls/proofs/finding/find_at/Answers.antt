@@ -12,8 +12,8 @@ use Rattle.cache_core.proofs.Looked.{bears_within}
 use Rattle.cache_calls.proofs.Finds.{bears_first, stands_first, stands_looked, stands_not, none_past}
 use Rattle.cache_calls.proofs.finding.find_at.Goals as goal
 
-pub returns-then-stands-in : goal.returns-then-stands-in
-returns-then-stands-in g c =
+pub returns-then-stands_in : goal.returns-then-stands_in
+returns-then-stands_in g c =
     let mean = g.K.Key.meaning in
     let hashed = g.K.HashedKey.hashed in
     let x = c.args.inner.now in
@@ -23,7 +23,7 @@ returns-then-stands-in g c =
     let word = mean c.args.key.now in
     let p = c.in-Ok.narrow in
     let here = c.in-Ok.ensures.1 in
-    let stands = sym c.stands-in.ensures ∙ c.if-stands-in.true in
+    let stands = sym c.stands_in.ensures ∙ c.if-stands_in.true in
     record {
       place = here;
       within = bears_within {K = g.row.K.Denot} {V = g.row.V.Denot} mean Resident rs word p (bears_first (bears (word_at {K = g.row.K.Denot} {V = g.row.V.Denot} mean Resident rs) word p) (resides p s) stands);
@@ -33,8 +33,8 @@ returns-then-stands-in g c =
           ∙ ap (λ (n : ℕ). in_place n (look word (state {K = g.row.K.Denot} mean d x))) here;
     }
 
-pub returns-else-stands-in : goal.returns-else-stands-in
-returns-else-stands-in g c =
+pub returns-else-stands_in : goal.returns-else-stands_in
+returns-else-stands_in g c =
     let mean = g.K.Key.meaning in
     let hashed = g.K.HashedKey.hashed in
     let x = c.args.inner.now in
@@ -43,7 +43,7 @@ returns-else-stands-in g c =
     let cap = x.policy.core.capacity in
     let word = mean c.args.key.now in
     let p = c.in-Ok.narrow in
-    let stands = sym c.stands-in.ensures ∙ c.if-stands-in.false in
+    let stands = sym c.stands_in.ensures ∙ c.if-stands_in.false in
     record {
       place = tt;
       within = tt;

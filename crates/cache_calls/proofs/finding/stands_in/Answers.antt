@@ -10,7 +10,7 @@ pub returns-then-same : goal.returns-then-same
 returns-then-same g c =
     let word = g.K.Key.meaning c.args.key.now in
     let test = alike_is c.same.result word (g.K.Key.meaning c.in-Some.held) c.same.ensures ∙ ap (λ (o : Option g.row.K.Denot). is_key word (option_map g.K.Key.meaning o)) c.in-Some.ensures in
-    c.is-resident.ensures ∙ sym (ap (λ (b : Bool). b && resides c.args.place (view c.args.inner.now.policy.core)) (sym test ∙ c.if-same.true))
+    c.is_resident.ensures ∙ sym (ap (λ (b : Bool). b && resides c.args.place (view c.args.inner.now.policy.core)) (sym test ∙ c.if-same.true))
 
 pub returns-else-same : goal.returns-else-same
 returns-else-same g c =

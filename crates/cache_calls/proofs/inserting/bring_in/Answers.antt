@@ -12,8 +12,8 @@ returns g c =
     let v = c.args.value in
     let place = c.in-Some.inserted.place in
     let x = c.args.inner.now in
-    let w = c.set-value.ensures in
-    let told = c.report-of.ensures in
+    let w = c.set_value.ensures in
+    let told = c.report_of.ensures in
     let a = c.in-Some.ensures in (
       ap (λ (q : Policy). q.core.capacity) w.policy ∙ a.1.0,
       λ t h absent.

@@ -20,9 +20,9 @@ returns g c =
     let x = c.args.inner.now in
     let rs = x.records.now in
     let y₁ = c.admit.new.inner in
-    let v = c.lying-in-value.result in
-    let w = c.set-value.ensures in
-    let told = c.report-of.ensures in
+    let v = c.lying_in-value.result in
+    let w = c.set_value.ensures in
+    let told = c.report_of.ensures in
     let a = c.in-Some.ensures in (
       ap (λ (q : Policy). q.core.capacity) w.policy ∙ a.1.0,
       λ t h absent.
@@ -42,7 +42,7 @@ returns g c =
                   ∙ ap (λ (n : ℕ). newcomer {K = g.row.K.Denot} {V = g.row.V.Denot} n key v (bare rs)) (sym (ap (λ (r : Report). r.place) told))));
             },
             λ d.
-                c.lying-in-value.ensures
+                c.lying_in-value.ensures
                 ∙ (ap (λ (u : g.row.V.Denot). cond (eqb place c.opened-opened.result) given u)
                 (value_kept {K = g.row.K.Denot} {V = g.row.V.Denot} given rs y₁.records.now place key place e.1 ∙ value_any {K = g.row.K.Denot} {V = g.row.V.Denot} d given rs place within)
                 ∙ (ap (λ (n : ℕ). cond (eqb place n) given (value_at {K = g.row.K.Denot} d rs place)) c.opened-opened.ensures

@@ -50,12 +50,12 @@ returns g c =
     let flags = c.places.flags in
     let n = c.places.place in
     let m = c.places.invariant in
-    let q = c.remove-flagged.new.self in
+    let q = c.remove_flagged.new.self in
     let all : s.opened ≤ n = (let e = c.opened-opened.ensures in let l = c.places-test.false in omega arith) in
     let end : n ≡ s.opened = (let e = c.opened-opened.ensures in let l = c.places-test.false in let k = c.places.auto.place-end in omega arith) in
     let parts : view q.core ≡ drops (highest_first (λ p. p)) (λ p. p) (flagged flags) s =
-    c.remove-flagged.ensures.view ∙ ap (λ (z : Policy). drops (highest_first (λ p. p)) (λ p. p) (flagged flags) (view z.core)) m.kept.1.0 in
-    let capacity : q.core.capacity ≡ x.policy.core.capacity = c.remove-flagged.ensures.capacity ∙ ap (λ (z : Policy). z.core.capacity) m.kept.1.0 in
+    c.remove_flagged.ensures.view ∙ ap (λ (z : Policy). drops (highest_first (λ p. p)) (λ p. p) (flagged flags) (view z.core)) m.kept.1.0 in
+    let capacity : q.core.capacity ≡ x.policy.core.capacity = c.remove_flagged.ensures.capacity ∙ ap (λ (z : Policy). z.core.capacity) m.kept.1.0 in
     record {
       does = λ t. (
         λ d. λ k. (

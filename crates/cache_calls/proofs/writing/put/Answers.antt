@@ -22,18 +22,18 @@ returns-in-Some g c =
     let rs = x.records.now in
     let cap = x.policy.core.capacity in
     let place = c.in-Some.place in
-    let x₁ = c.use-value-old.new.inner in
-    let y = c.set-value.new.inner in
+    let x₁ = c.use_value-old.new.inner in
+    let y = c.set_value.new.inner in
     let h = c.hash-hash.ensures in
     let f = c.in-Some.ensures in
-    let u = c.use-value-old.ensures in
-    let w = c.set-value.ensures in
+    let u = c.use_value-old.ensures in
+    let w = c.set_value.ensures in
     let pos : 1 ≤ cap = (let z = c.if-capacity-eq0.false in let e = c.capacity.ensures in omega arith) in
     record {
       does = λ t.
           (let still = resides_still {K = g.row.K.Denot} {V = g.row.V.Denot} mean word place rs x₁.records.now (places (view x.policy.core)) (places (view x₁.policy.core)) u.records u.places (f.first t h) in (
             λ d.
-                put_some cap pos (state {K = g.row.K.Denot} mean d x) (state {K = g.row.K.Denot} mean d y) word v (item_at {K = g.row.K.Denot} mean d rs place) c.use-value-old.result (sym (f.look d t h))
+                put_some cap pos (state {K = g.row.K.Denot} mean d x) (state {K = g.row.K.Denot} mean d y) word v (item_at {K = g.row.K.Denot} mean d rs place) c.use_value-old.result (sym (f.look d t h))
                 (w.lays d word (u.tied t) still ∙ ap (lays word v) (u.next d word t (f.first t h))) (u.value d),
             w.tied (u.tied t),
           ));
@@ -52,15 +52,15 @@ returns-in-None g c =
     let x = c.args.inner.now in
     let rs = x.records.now in
     let cap = x.policy.core.capacity in
-    let y = c.bring-in.new.inner in
+    let y = c.bring_in.new.inner in
     let h = c.hash-hash.ensures in
     let f = c.in-None.ensures in
-    let b = c.bring-in.ensures in
+    let b = c.bring_in.ensures in
     let pos : 1 ≤ cap = (let z = c.if-capacity-eq0.false in let e = c.capacity.ensures in omega arith) in
     record {
       does = λ t.
           (let e = b.1 t h (none_count (bears (word_at {K = g.row.K.Denot} {V = g.row.V.Denot} mean Resident rs) word) (places (view x.policy.core)) (f.first t h)) in
-          (λ d. put_none cap pos (state {K = g.row.K.Denot} mean d x) (state {K = g.row.K.Denot} mean d y) word c.args.value c.bring-in.result (sym (f.look d t h)) (e.next d) (e.told d), e.tied));
+          (λ d. put_none cap pos (state {K = g.row.K.Denot} mean d x) (state {K = g.row.K.Denot} mean d y) word c.args.value c.bring_in.result (sym (f.look d t h)) (e.next d) (e.told d), e.tied));
       records = λ t d. (b.1 t h (none_count (bears (word_at {K = g.row.K.Denot} {V = g.row.V.Denot} mean Resident rs) word) (places (view x.policy.core)) (f.first t h))).laid;
       capacity = b.0;
     }

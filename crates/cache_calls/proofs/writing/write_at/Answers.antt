@@ -13,7 +13,7 @@ returns-in-Some g c =
     let p = c.args.place in
     let x = c.args.inner.now in
     let f = c.in-Some.ensures in
-    let w = c.set-value.ensures in
+    let w = c.set_value.ensures in
     record {
       does = λ t. (
         λ d.

@@ -5,12 +5,12 @@ use Rattle.cache_core.proofs.departing.remember.Goals as goal
 pub returns : goal.returns
 returns g c =
     let x = c.args.inner.now in
-    let x' = c.free-node.new.inner in
-    let y = c.note-key.new.inner in
-    let freed = c.free-node.ensures.kept in
-    let laid = c.note-key.ensures.kept in
+    let x' = c.free_node.new.inner in
+    let y = c.note_key.new.inner in
+    let freed = c.free_node.ensures.kept in
+    let laid = c.note_key.ensures.kept in
     record {
       tied = λ old k within told named none few t.
-          remembered_after {K = g.row.K.Denot} g.K.Key.meaning g.K.HashedKey.hashed {V = g.row.V.Denot} x.records.now x'.records.now y.records.now x'.remembered y.remembered c.args.place c.args.noted.node c.key-of-key.result old k freed.0 c.key-of-key.ensures c.note-key.ensures.tied named (c.free-node.ensures.tied old within told t) within none few;
+          remembered_after {K = g.row.K.Denot} g.K.Key.meaning g.K.HashedKey.hashed {V = g.row.V.Denot} x.records.now x'.records.now y.records.now x'.remembered y.remembered c.args.place c.args.noted.node c.key_of-key.result old k freed.0 c.key_of-key.ensures c.note_key.ensures.tied named (c.free_node.ensures.tied old within told t) within none few;
       kept = (laid.0 ∙ freed.1.0, laid.1 ∙ freed.1.1);
     }

@@ -8,7 +8,7 @@ returns-then-noted g c =
     let x = c.args.inner.now in
     record {
       tied = λ old within told t.
-          frees_some {K = g.row.K.Denot} g.K.Key.meaning g.K.HashedKey.hashed {V = g.row.V.Denot} Remembered x.records.now x.remembered c.unfile-key.new.index c.key-of-key.result c.args.noted.node c.args.noted.forgot old c.if-noted.true c.key-of-key.ensures c.unfile-key.ensures within told t;
+          frees_some {K = g.row.K.Denot} g.K.Key.meaning g.K.HashedKey.hashed {V = g.row.V.Denot} Remembered x.records.now x.remembered c.unfile_key.new.index c.key_of-key.result c.args.noted.node c.args.noted.forgot old c.if-noted.true c.key_of-key.ensures c.unfile_key.ensures within told t;
       kept = (refl, (refl, refl));
     }
 

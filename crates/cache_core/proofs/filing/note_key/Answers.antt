@@ -12,7 +12,7 @@ returns-in-Some g c =
       tied = λ k is.
           (let e : Some key ≡ Some k = sym c.in-Some.is ∙ is in
           let same : key ≡ k = cc in
-          subst (λ (z : g.row.K.Denot). Laid {K = g.row.K.Denot} g.K.Key.meaning g.K.HashedKey.hashed {V = g.row.V.Denot} Remembered x.records.now x.remembered c.args.node z c.lay-key.new.records c.lay-key.new.index) same
-          (laid {K = g.row.K.Denot} g.K.Key.meaning g.K.HashedKey.hashed {V = g.row.V.Denot} Remembered x.records.now c.lay-key.new.records x.remembered c.lay-key.new.index c.args.node c.hash-hash.result key c.lay-key.result c.hash-hash.ensures c.lay-key.ensures.lays c.lay-key.ensures.tied));
+          subst (λ (z : g.row.K.Denot). Laid {K = g.row.K.Denot} g.K.Key.meaning g.K.HashedKey.hashed {V = g.row.V.Denot} Remembered x.records.now x.remembered c.args.node z c.lay_key.new.records c.lay_key.new.index) same
+          (laid {K = g.row.K.Denot} g.K.Key.meaning g.K.HashedKey.hashed {V = g.row.V.Denot} Remembered x.records.now c.lay_key.new.records x.remembered c.lay_key.new.index c.args.node c.hash-hash.result key c.lay_key.result c.hash-hash.ensures c.lay_key.ensures.lays c.lay_key.ensures.tied));
       kept = (refl, refl);
     }

@@ -8,6 +8,6 @@ returns g c =
     let x = c.args.inner.now in
     record {
       tied = λ h.
-          laid {K = g.row.K.Denot} g.K.Key.meaning g.K.HashedKey.hashed {V = g.row.V.Denot} Resident x.records.now c.lay-key.new.records x.residents c.lay-key.new.index c.args.place c.args.hash c.args.key c.lay-key.result h c.lay-key.ensures.lays c.lay-key.ensures.tied;
+          laid {K = g.row.K.Denot} g.K.Key.meaning g.K.HashedKey.hashed {V = g.row.V.Denot} Resident x.records.now c.lay_key.new.records x.residents c.lay_key.new.index c.args.place c.args.hash c.args.key c.lay_key.result h c.lay_key.ensures.lays c.lay_key.ensures.tied;
       kept = (refl, refl);
     }

@@ -8,6 +8,6 @@ returns g c =
     let x = c.args.inner.now in
     record {
       tied = λ ps within t.
-          unfiled_key {K = g.row.K.Denot} g.K.Key.meaning g.K.HashedKey.hashed {V = g.row.V.Denot} Resident x.records.now x.residents c.unfile-key.new.index c.key-of-key.result c.args.place ps c.key-of-key.ensures c.unfile-key.ensures within t;
+          unfiled_key {K = g.row.K.Denot} g.K.Key.meaning g.K.HashedKey.hashed {V = g.row.V.Denot} Resident x.records.now x.residents c.unfile_key.new.index c.key_of-key.result c.args.place ps c.key_of-key.ensures c.unfile_key.ensures within t;
       kept = (refl, (refl, refl));
     }

@@ -13,9 +13,9 @@ returns g c =
     let nodes = (view x.policy.core).remembered in
     let word = mean c.args.key.now in
     record {
-      within = found_within {K = g.row.K.Denot} {V = g.row.V.Denot} mean x.remembered Remembered rs word c.args.hash c.find-key.result c.find-key.ensures.found;
-      first = λ t h. c.find-key.ensures.tied g.K.HashedKey.hashed nodes t.remembered h;
+      within = found_within {K = g.row.K.Denot} {V = g.row.V.Denot} mean x.remembered Remembered rs word c.args.hash c.find_key.result c.find_key.ensures.found;
+      first = λ t h. c.find_key.ensures.tied g.K.HashedKey.hashed nodes t.remembered h;
       has = λ t h.
-          ap is_some (c.find-key.ensures.tied g.K.HashedKey.hashed nodes t.remembered h)
+          ap is_some (c.find_key.ensures.tied g.K.HashedKey.hashed nodes t.remembered h)
           ∙ has_first {K = g.row.K.Denot} {V = g.row.V.Denot} mean rs word nodes (node_within x.policy _ t.sized);
     }

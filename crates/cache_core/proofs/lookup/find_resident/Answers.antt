@@ -15,9 +15,9 @@ returns g c =
     let s = view x.policy.core in
     let word = mean c.args.key.now in
     record {
-      within = found_within {K = g.row.K.Denot} {V = g.row.V.Denot} mean x.residents Resident rs word c.args.hash c.find-key.result c.find-key.ensures.found;
-      first = λ t h. c.find-key.ensures.tied g.K.HashedKey.hashed (places s) t.residents h;
+      within = found_within {K = g.row.K.Denot} {V = g.row.V.Denot} mean x.residents Resident rs word c.args.hash c.find_key.result c.find_key.ensures.found;
+      first = λ t h. c.find_key.ensures.tied g.K.HashedKey.hashed (places s) t.residents h;
       look = λ d t h.
-          ap (option_map (item_at {K = g.row.K.Denot} {V = g.row.V.Denot} mean d rs)) (c.find-key.ensures.tied g.K.HashedKey.hashed (places s) t.residents h)
+          ap (option_map (item_at {K = g.row.K.Denot} {V = g.row.V.Denot} mean d rs)) (c.find_key.ensures.tied g.K.HashedKey.hashed (places s) t.residents h)
           ∙ look_first {K = g.row.K.Denot} {V = g.row.V.Denot} mean d rs word s (place_within x.policy _ t.sized);
     }

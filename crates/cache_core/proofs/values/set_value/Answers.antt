@@ -15,7 +15,7 @@ returns g c =
     let rs = x.records.now in
     let s = view x.policy.core in
     let cap = x.policy.core.capacity in
-    let laid = c.lay-value.ensures in
+    let laid = c.lay_value.ensures in
     record {
       policy = refl;
       records = laid;

@@ -10,10 +10,10 @@ use Rattle.handles.proofs.calls.rebuild.Goals as goal
 
 pub old-init : goal.old-init
 old-init g c =
-    let z : occupied c.empty-all.new.slots ≡ 0 = ap occupied c.empty-all.ensures ∙ cleared_occupied c.args.fresh.now in (
+    let z : occupied c.empty_all.new.slots ≡ 0 = ap occupied c.empty_all.ensures ∙ cleared_occupied c.args.fresh.now in (
       refl,
-      subst (λ (n : ℕ). Sound c.empty-all.new.slots n) (sym z)
-          (subst (λ (xs : List (Slot g.row.X.Denot)). Sound xs 0) (sym c.empty-all.ensures) (cleared_sound c.args.fresh.now)),
+      subst (λ (n : ℕ). Sound c.empty_all.new.slots n) (sym z)
+          (subst (λ (xs : List (Slot g.row.X.Denot)). Sound xs 0) (sym c.empty_all.ensures) (cleared_sound c.args.fresh.now)),
       omega arith,
     )
 
@@ -22,7 +22,7 @@ place-requires g c =
     let same : length c.old.fresh ≡ length c.args.fresh.now = omega arith in
     let top : occupied c.args.old.now ≤ room (length c.old.fresh) =
     subst (λ (n : ℕ). occupied c.args.old.now ≤ room n) (sym same) c.requires.room in
-    let lt = midway_room (λ x. g.R.Rehash.rehashed c.args.rule.now (g.X.Handle.meaning x)) c.args.old.now c.empty-all.new.slots c.old.fresh
+    let lt = midway_room (λ x. g.R.Rehash.rehashed c.args.rule.now (g.X.Handle.meaning x)) c.args.old.now c.empty_all.new.slots c.old.fresh
     c.old.slot-index c.slot-item.result c.old.invariant c.old-test.true c.slot-item.is c.if-slot.true top in
     let r = roomy_ring c.old.fresh (occupied c.old.fresh) (occupied c.old.fresh) c.old.invariant.1 lt in
     record {
@@ -40,20 +40,20 @@ old-preserved g c =
     let s = c.slot-item.result in
     elim c.if-slot.branch [
       | goal.then-slot w ↦
-          midway_place rule c.args.old.now c.empty-all.new.slots c.old.fresh c.if-slot.fresh c.old.slot-index s
+          midway_place rule c.args.old.now c.empty_all.new.slots c.old.fresh c.if-slot.fresh c.old.slot-index s
           c.old.invariant c.old-test.true c.slot-item.is w.if-slot.true top
-          (w.fresh-is ∙ w.place.ensures ∙ ap (λ (h : ℕ). inserted c.old.fresh h s.handle) w.hash-of.ensures)
+          (w.fresh-is ∙ w.place.ensures ∙ ap (λ (h : ℕ). inserted c.old.fresh h s.handle) w.hash_of.ensures)
       | goal.else-slot w ↦
-          subst (λ (ys : List (Slot g.row.X.Denot)). Midway rule c.args.old.now c.empty-all.new.slots ys (c.old.slot-index + 1)) (sym w.fresh-is)
-          (midway_pass rule c.args.old.now c.empty-all.new.slots c.old.fresh c.old.slot-index s
+          subst (λ (ys : List (Slot g.row.X.Denot)). Midway rule c.args.old.now c.empty_all.new.slots ys (c.old.slot-index + 1)) (sym w.fresh-is)
+          (midway_pass rule c.args.old.now c.empty_all.new.slots c.old.fresh c.old.slot-index s
           c.old.invariant c.old-test.true c.slot-item.is w.if-slot.false)
     ]
 
 pub returns : goal.returns
 returns g c =
-    let m = midway_end (λ x. g.R.Rehash.rehashed c.args.rule.now (g.X.Handle.meaning x)) c.args.old.now c.empty-all.new.slots c.old.fresh
+    let m = midway_end (λ x. g.R.Rehash.rehashed c.args.rule.now (g.X.Handle.meaning x)) c.args.old.now c.empty_all.new.slots c.old.fresh
     c.old.slot-index c.old.invariant c.old-test.false in
     record {
-      slots = m.0 ∙ ap (λ (ys : List (Slot g.row.X.Denot)). rebuilt (λ x. g.R.Rehash.rehashed c.args.rule.now (g.X.Handle.meaning x)) ys c.args.old.now) c.empty-all.ensures;
+      slots = m.0 ∙ ap (λ (ys : List (Slot g.row.X.Denot)). rebuilt (λ x. g.R.Rehash.rehashed c.args.rule.now (g.X.Handle.meaning x)) ys c.args.old.now) c.empty_all.ensures;
       sound = m.1;
     }

@@ -14,16 +14,16 @@ returns-then-len-eq0 g c =
       sound = c.requires;
     }
 
-pub pull-back-requires : goal.pull-back-requires
-pull-back-requires g c =
+pub pull_back-requires : goal.pull_back-requires
+pull_back-requires g c =
     let xs = c.args.slots.now in
     let n = length xs in
     let good = sound_some xs c.args.len.now c.requires c.if-len-eq0.false in
-    let is = sought_is g.X.Handle.meaning xs c.args.hash c.args.handle c.home-of-home.result c.print-of.result (Some c.in-Some.displacement)
-    c.home-of-home.ensures c.print-of.ensures c.in-Some.ensures.value in
-    let s = (remove_slot g.X.Handle.meaning xs c.args.hash c.args.handle c.args.len.now c.in-Some.displacement c.home-of-home.result
-    c.requires c.if-len-eq0.false c.home-of-home.ensures is).1
-    (bit_and (c.home-of-home.result + c.in-Some.displacement) (n - 1)) (masked n (c.home-of-home.result + c.in-Some.displacement) good.0 good.1) in
+    let is = sought_is g.X.Handle.meaning xs c.args.hash c.args.handle c.home_of-home.result c.print_of.result (Some c.in-Some.displacement)
+    c.home_of-home.ensures c.print_of.ensures c.in-Some.ensures.value in
+    let s = (remove_slot g.X.Handle.meaning xs c.args.hash c.args.handle c.args.len.now c.in-Some.displacement c.home_of-home.result
+    c.requires c.if-len-eq0.false c.home_of-home.ensures is).1
+    (bit_and (c.home_of-home.result + c.in-Some.displacement) (n - 1)) (masked n (c.home_of-home.result + c.in-Some.displacement) good.0 good.1) in
     record { size = good.0; within = s.0; vacancy = s.1; level = c.requires.0; taken = s.2 }
 
 pub returns-in-Some : goal.returns-in-Some
@@ -31,21 +31,21 @@ returns-in-Some g c =
     let xs = c.args.slots.now in
     let n = length xs in
     let good = sound_some xs c.args.len.now c.requires c.if-len-eq0.false in
-    let is = sought_is g.X.Handle.meaning xs c.args.hash c.args.handle c.home-of-home.result c.print-of.result (Some c.in-Some.displacement)
-    c.home-of-home.ensures c.print-of.ensures c.in-Some.ensures.value in
-    let p = bit_and (c.home-of-home.result + c.in-Some.displacement) (n - 1) in
-    let s = (remove_slot g.X.Handle.meaning xs c.args.hash c.args.handle c.args.len.now c.in-Some.displacement c.home-of-home.result
-    c.requires c.if-len-eq0.false c.home-of-home.ensures is).1
-    p (masked n (c.home-of-home.result + c.in-Some.displacement) good.0 good.1) in
-    let m = remove_made g.X.Handle.meaning xs c.args.hash c.args.handle c.args.len.now c.in-Some.displacement p c.pull-back.new.slots
-    c.requires c.if-len-eq0.false is s.3 (c.pull-back.ensures (record { meta = empty; handle = c.args.handle })) in
+    let is = sought_is g.X.Handle.meaning xs c.args.hash c.args.handle c.home_of-home.result c.print_of.result (Some c.in-Some.displacement)
+    c.home_of-home.ensures c.print_of.ensures c.in-Some.ensures.value in
+    let p = bit_and (c.home_of-home.result + c.in-Some.displacement) (n - 1) in
+    let s = (remove_slot g.X.Handle.meaning xs c.args.hash c.args.handle c.args.len.now c.in-Some.displacement c.home_of-home.result
+    c.requires c.if-len-eq0.false c.home_of-home.ensures is).1
+    p (masked n (c.home_of-home.result + c.in-Some.displacement) good.0 good.1) in
+    let m = remove_made g.X.Handle.meaning xs c.args.hash c.args.handle c.args.len.now c.in-Some.displacement p c.pull_back.new.slots
+    c.requires c.if-len-eq0.false is s.3 (c.pull_back.ensures (record { meta = empty; handle = c.args.handle })) in
     record { removes = m.0; sound = m.1 }
 
 pub returns-in-None : goal.returns-in-None
 returns-in-None g c =
     record {
       removes = remove_none g.X.Handle.meaning c.args.slots.now c.args.hash c.args.handle
-          (sought_is g.X.Handle.meaning c.args.slots.now c.args.hash c.args.handle c.home-of-home.result c.print-of.result None
-          c.home-of-home.ensures c.print-of.ensures c.in-None.ensures.value);
+          (sought_is g.X.Handle.meaning c.args.slots.now c.args.hash c.args.handle c.home_of-home.result c.print_of.result None
+          c.home_of-home.ensures c.print_of.ensures c.in-None.ensures.value);
       sound = c.requires;
     }

@@ -6,7 +6,7 @@ use Rattle.handles.proofs.entries.place.Goals as goal
 pub overflow-mul-meta : goal.overflow-mul-meta
 overflow-mul-meta g c =
     let r = ring_made c.args.slots.now c.requires.size c.requires.vacancy c.requires.level in
-    let s = stop_short (length c.args.slots.now) c.args.slots.now c.home-of-home.result r in
+    let s = stop_short (length c.args.slots.now) c.args.slots.now c.home_of-home.result r in
     let h = r.high in
     let e = c.walk-slot.ensures.displacement in
     omega arith
@@ -14,25 +14,25 @@ overflow-mul-meta g c =
 pub overflow-add-meta : goal.overflow-add-meta
 overflow-add-meta g c =
     let r = ring_made c.args.slots.now c.requires.size c.requires.vacancy c.requires.level in
-    let f = place_fits c.args.slots.now c.args.hash c.home-of-home.result c.walk-slot.result.0 c.walk-slot.result.1 c.print-of.result c.args.handle
-    c.home-of-home.ensures c.walk-slot.ensures.displacement c.walk-slot.ensures.slot c.print-of.ensures r in
+    let f = place_fits c.args.slots.now c.args.hash c.home_of-home.result c.walk-slot.result.0 c.walk-slot.result.1 c.print_of.result c.args.handle
+    c.home_of-home.ensures c.walk-slot.ensures.displacement c.walk-slot.ensures.slot c.print_of.ensures r in
     omega arith
 
-pub push-forward-requires : goal.push-forward-requires
-push-forward-requires g c =
+pub push_forward-requires : goal.push_forward-requires
+push_forward-requires g c =
     let r = ring_made c.args.slots.now c.requires.size c.requires.vacancy c.requires.level in
     record {
       size = c.requires.size;
-      within = (place_fits c.args.slots.now c.args.hash c.home-of-home.result c.walk-slot.result.0 c.walk-slot.result.1 c.print-of.result c.args.handle
-          c.home-of-home.ensures c.walk-slot.ensures.displacement c.walk-slot.ensures.slot c.print-of.ensures r).2;
+      within = (place_fits c.args.slots.now c.args.hash c.home_of-home.result c.walk-slot.result.0 c.walk-slot.result.1 c.print_of.result c.args.handle
+          c.home_of-home.ensures c.walk-slot.ensures.displacement c.walk-slot.ensures.slot c.print_of.ensures r).2;
       vacancy = c.requires.vacancy;
       level = c.requires.level;
-      carries = place_carries c.args.slots.now c.args.hash c.home-of-home.result c.walk-slot.result.0 c.walk-slot.result.1 c.print-of.result c.args.handle
-          c.home-of-home.ensures c.walk-slot.ensures.displacement c.walk-slot.ensures.slot c.print-of.ensures r;
+      carries = place_carries c.args.slots.now c.args.hash c.home_of-home.result c.walk-slot.result.0 c.walk-slot.result.1 c.print_of.result c.args.handle
+          c.home_of-home.ensures c.walk-slot.ensures.displacement c.walk-slot.ensures.slot c.print_of.ensures r;
     }
 
 pub returns : goal.returns
 returns g c =
-    c.push-forward.ensures
-    ∙ place_is c.args.slots.now c.args.hash c.home-of-home.result c.walk-slot.result.0 c.walk-slot.result.1 c.print-of.result c.args.handle
-    c.home-of-home.ensures c.walk-slot.ensures.displacement c.walk-slot.ensures.slot c.print-of.ensures
+    c.push_forward.ensures
+    ∙ place_is c.args.slots.now c.args.hash c.home_of-home.result c.walk-slot.result.0 c.walk-slot.result.1 c.print_of.result c.args.handle
+    c.home_of-home.ensures c.walk-slot.ensures.displacement c.walk-slot.ensures.slot c.print_of.ensures

@@ -11,12 +11,12 @@ returns-then-len-eq0 g c =
 
 pub returns-in-Some : goal.returns-in-Some
 returns-in-Some g c =
-    find_some (g.S.Sought.fits c.args.sought.now) c.args.slots.now c.args.hash c.home-of-home.result c.print-of.result
-    c.home-of-home.ensures c.print-of.ensures (sound_some c.args.slots.now c.args.len c.requires c.if-len-eq0.false).1
-    c.in-Some.displacement c.handle-at.result c.in-Some.ensures.value c.handle-at.ensures
+    find_some (g.S.Sought.fits c.args.sought.now) c.args.slots.now c.args.hash c.home_of-home.result c.print_of.result
+    c.home_of-home.ensures c.print_of.ensures (sound_some c.args.slots.now c.args.len c.requires c.if-len-eq0.false).1
+    c.in-Some.displacement c.handle_at.result c.in-Some.ensures.value c.handle_at.ensures
 
 pub returns-in-None : goal.returns-in-None
 returns-in-None g c =
-    find_none (g.S.Sought.fits c.args.sought.now) c.args.slots.now c.args.hash c.home-of-home.result c.print-of.result
-    c.home-of-home.ensures c.print-of.ensures (sound_some c.args.slots.now c.args.len c.requires c.if-len-eq0.false).1
+    find_none (g.S.Sought.fits c.args.sought.now) c.args.slots.now c.args.hash c.home_of-home.result c.print_of.result
+    c.home_of-home.ensures c.print_of.ensures (sound_some c.args.slots.now c.args.len c.requires c.if-len-eq0.false).1
     c.in-None.ensures.value

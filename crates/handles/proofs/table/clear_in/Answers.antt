@@ -8,6 +8,6 @@ pub returns : goal.returns
 returns g c =
     record {
       slots = search rules;
-      sound = subst (λ (xs : List (Slot g.row.X.Denot)). Sound xs 0) (sym c.empty-all.ensures) (cleared_sound c.args.inner.now.slots.now);
+      sound = subst (λ (xs : List (Slot g.row.X.Denot)). Sound xs 0) (sym c.empty_all.ensures) (cleared_sound c.args.inner.now.slots.now);
       sized = search rules;
     }

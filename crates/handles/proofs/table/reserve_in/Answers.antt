@@ -9,10 +9,10 @@ use Rattle.handles.proofs.table.reserve_in.Goals as goal
 
 pub returns-in-Ok-Rebuilt : goal.returns-in-Ok-Rebuilt
 returns-in-Ok-Rebuilt g c =
-    let x : c.swap.new.x.now ≡ c.rebuild-in.new.fresh.now = ap (λ (z : Bor (List (Slot g.row.X.Denot))). z.now) c.swap.ensures.x-after in
+    let x : c.swap.new.x.now ≡ c.rebuild_in.new.fresh.now = ap (λ (z : Bor (List (Slot g.row.X.Denot))). z.now) c.swap.ensures.x-after in
     let y : c.swap.new.y.now ≡ c.args.inner.now.slots.now = ap (λ (z : Bor (List (Slot g.row.X.Denot))). z.now) c.swap.ensures.y-after in
-    let good : Sound c.rebuild-in.new.fresh.now c.args.inner.now.len =
-    subst (λ (n : ℕ). Sound c.rebuild-in.new.fresh.now n) c.requires.sound.1 c.rebuild-in.ensures.sound in
+    let good : Sound c.rebuild_in.new.fresh.now c.args.inner.now.len =
+    subst (λ (n : ℕ). Sound c.rebuild_in.new.fresh.now n) c.requires.sound.1 c.rebuild_in.ensures.sound in
     record {
       reserves = record {
         answer =
@@ -21,9 +21,9 @@ returns-in-Ok-Rebuilt g c =
             e
             ∙ ap (λ (n : ℕ). reserve_answer_lem n c.args.inner.now.len c.args.wanted (length c.args.brought.now.now)) c.requires.sized
             ∙ ap (λ (n : ℕ). reserve_answer_lem (room (length c.args.inner.now.slots.now)) n c.args.wanted (length c.args.brought.now.now)) (sym c.requires.sound.1));
-        slots = x ∙ c.rebuild-in.ensures.slots;
+        slots = x ∙ c.rebuild_in.ensures.slots;
         brought = y;
       };
       sound = subst (λ (zs : List (Slot g.row.X.Denot)). Sound zs c.args.inner.now.len) (sym x) good;
-      sized = c.capacity-of-inner.ensures ∙ ap room (sym (ap length x ∙ c.rebuild-in.ensures.count));
+      sized = c.capacity_of-inner.ensures ∙ ap room (sym (ap length x ∙ c.rebuild_in.ensures.count));
     }

@@ -4,8 +4,8 @@ use Rattle.keys.specs.Named.{name_byte, name_bytes}
 use Rattle.keys.proofs.Naming.{name_more, name_all}
 use Rattle.keys.proofs.named.is_name.Goals as goal
 
-pub returns-then-not-is-name-byte : goal.returns-then-not-is-name-byte
-returns-then-not-is-name-byte c =
+pub returns-then-not-is_name_byte : goal.returns-then-not-is_name_byte
+returns-then-not-is_name_byte c =
     let bs = c.args.bytes.now in
     let i = c.loop-byte.byte-index in
     let bad : name_byte (get_or bs i 0) ≡ false = cc in

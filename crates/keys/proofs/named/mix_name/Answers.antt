@@ -8,7 +8,7 @@ pub loop-byte-preserved : goal.loop-byte-preserved
 loop-byte-preserved c =
     let bs = c.args.spelling.now in
     let i = c.loop-byte.byte-index in
-    ap (λ h. hash_from h (map folded (drop (i + 1) bs))) (c.mix-so-far.ensures ∙ ap (mixed c.loop-byte.so_far) c.fold.ensures) ∙ sym (hash_more c.loop-byte.so_far bs i (omega arith)) ∙ c.loop-byte.invariant
+    ap (λ h. hash_from h (map folded (drop (i + 1) bs))) (c.mix-so_far.ensures ∙ ap (mixed c.loop-byte.so_far) c.fold.ensures) ∙ sym (hash_more c.loop-byte.so_far bs i (omega arith)) ∙ c.loop-byte.invariant
 
 pub returns : goal.returns
 returns c =

@@ -7,6 +7,6 @@ pub returns : goal.returns
 returns c =
     let bs = c.args.text.now in
     let named : is_name_lem bs ≡ true = cc in
-    let copied : c.copy-from-slice.new.self ≡ bs = c.copy-from-slice.ensures.after ∙ c.as-bytes-spelling.ensures.value in
-    let kept = take_at c.copy-from-slice.new.self _ (length c.as-bytes-spelling.result.now) (ap length c.copy-from-slice.ensures.after) ∙ copied in
+    let copied : c.copy_from_slice.new.self ≡ bs = c.copy_from_slice.ensures.after ∙ c.as_bytes-spelling.ensures.value in
+    let kept = take_at c.copy_from_slice.new.self _ (length c.as_bytes-spelling.result.now) (ap length c.copy_from_slice.ensures.after) ∙ copied in
     record { value = ap (λ l. Some (map folded l)) kept ∙ rw named; spelled = kept }

@@ -13,20 +13,20 @@ returns-in-default g c =
     let none : cut 10 bs ≡ None = sym c.in-default.ensures in
     ap Err c.new-broken.ensures ∙ sym (sheet_uncut g.K.WrittenKey.meant (c.lines.before + 1) bs (g.K.Key.meaning c.args.key.now) some none) ∙ c.lines.invariant.1
 
-pub returns-in-default-read-entry : goal.returns-in-default-read-entry
-returns-in-default-read-entry g c =
+pub returns-in-default-read_entry : goal.returns-in-default-read_entry
+returns-in-default-read_entry g c =
     let bs = c.lines.rest.now in
     let line = c.in-Some.line.now in
     let after = c.in-Some.after.now in
     let parts : cut 10 bs ≡ Some (line, after) = sym c.in-Some.ensures in
-    let none : line_text g.K.WrittenKey.meant line ≡ None = sym c.in-default-read-entry.ensures in
+    let none : line_text g.K.WrittenKey.meant line ≡ None = sym c.in-default-read_entry.ensures in
     ap Err c.new-broken.ensures ∙ sym (sheet_unread g.K.WrittenKey.meant (c.lines.before + 1) bs (g.K.Key.meaning c.args.key.now) line after parts none) ∙ c.lines.invariant.1
 
 pub returns-then-same : goal.returns-then-same
 returns-then-same g c =
     let meaning = g.K.Key.meaning in
-    let e = c.in-Some-read-entry.entry in
-    let step = sheet_more g.K.WrittenKey.meant (c.lines.before + 1) c.lines.rest.now (meaning c.args.key.now) c.in-Some.line.now c.in-Some.after.now (meaning e.key) e.value c.same.result (sym c.in-Some.ensures) (sym c.in-Some-read-entry.ensures) c.same.ensures in
+    let e = c.in-Some-read_entry.entry in
+    let step = sheet_more g.K.WrittenKey.meant (c.lines.before + 1) c.lines.rest.now (meaning c.args.key.now) c.in-Some.line.now c.in-Some.after.now (meaning e.key) e.value c.same.result (sym c.in-Some.ensures) (sym c.in-Some-read_entry.ensures) c.same.ensures in
     sym (rw c.if-same.true at step) ∙ c.lines.invariant.1
 
 pub lines-smaller : goal.lines-smaller
@@ -35,9 +35,9 @@ lines-smaller g c = cut_shorter 10 c.lines.rest.now c.in-Some.line.now c.in-Some
 pub lines-preserved : goal.lines-preserved
 lines-preserved g c =
     let meaning = g.K.Key.meaning in
-    let e = c.in-Some-read-entry.entry in
+    let e = c.in-Some-read_entry.entry in
     let shorter = cut_shorter 10 c.lines.rest.now c.in-Some.line.now c.in-Some.after.now (sym c.in-Some.ensures) in
-    let step = sheet_more g.K.WrittenKey.meant (c.lines.before + 1) c.lines.rest.now (meaning c.args.key.now) c.in-Some.line.now c.in-Some.after.now (meaning e.key) e.value c.same.result (sym c.in-Some.ensures) (sym c.in-Some-read-entry.ensures) c.same.ensures in
+    let step = sheet_more g.K.WrittenKey.meant (c.lines.before + 1) c.lines.rest.now (meaning c.args.key.now) c.in-Some.line.now c.in-Some.after.now (meaning e.key) e.value c.same.result (sym c.in-Some.ensures) (sym c.in-Some-read_entry.ensures) c.same.ensures in
     (search rules, sym (rw c.if-same.false at step) ∙ c.lines.invariant.1, omega (arith, shorter, c.lines.invariant.2))
 
 pub returns : goal.returns

@@ -19,4 +19,4 @@ checked_fitting None z h = sym (fits_none z h)
 checked_fitting (Some x) z h = ap Some h.1 ∙ sym (fits_some z h.0)
 
 pub returns : goal.returns
-returns c = checked_fitting c.checked-add.result (c.args.coordinate +ℤ c.args.offset) (simp (to_z-of_z, c.ranges.coordinate, c.ranges.offset) at c.checked-add.ensures)
+returns c = checked_fitting c.checked_add.result (c.args.coordinate +ℤ c.args.offset) (simp (to_z-of_z, c.ranges.coordinate, c.ranges.offset) at c.checked_add.ensures)

@@ -7,6 +7,6 @@ pub overflow-add-result : goal.overflow-add-result
 overflow-add-result c =
     let e = everybody c.args.core.now in
     let o = opened_low c.args.core.now.residents.slots c.args.core.now.residents.listed in
-    let a = c.small-len.ensures in
-    let b = c.main-len.ensures in
+    let a = c.small_len.ensures in
+    let b = c.main_len.ensures in
     omega arith

@@ -15,14 +15,14 @@ returns c =
     let q = c.vacate-vacancy.new.core in
     let m = c.requires.limited in
     let s = c.vacate-vacancy.ensures.same in
-    let ea = c.admission-admission.ensures ∙ ap (λ (k : ℕ). admission_of (c.args.ghost-hit || (eqb k 0 || (c.has-vacancy-has-vacancy.result && leb k (length (view p).small))))) m.1 in
+    let ea = c.admission-admission.ensures ∙ ap (λ (k : ℕ). admission_of (c.args.ghost_hit || (eqb k 0 || (c.has_vacancy-has_vacancy.result && leb k (length (view p).small))))) m.1 in
     record {
       done =
-          done p.capacity q.residents.slots.window c.args.ghost-hit c.has-vacancy-has-vacancy.result c.admission-admission.result c.part-of-joined.result
+          done p.capacity q.residents.slots.window c.args.ghost_hit c.has_vacancy-has_vacancy.result c.admission-admission.result c.part_of-joined.result
           (view p) (held q.residents) (held c.seat.new.self) (remembered q.ghosts) c.in-Some.place c.vacate-vacancy.result
-          c.has-vacancy-has-vacancy.ensures ea c.part-of-joined.ensures c.in-Some.ensures.answer c.seat.ensures.held
+          c.has_vacancy-has_vacancy.ensures ea c.part_of-joined.ensures c.in-Some.ensures.answer c.seat.ensures.held
           (λ h.
-          let r = small_room c.args.ghost-hit c.has-vacancy-has-vacancy.result (small_limit p.capacity) (length (view p).small) c.admission-admission.result ea h in
+          let r = small_room c.args.ghost_hit c.has_vacancy-has_vacancy.result (small_limit p.capacity) (length (view p).small) c.admission-admission.result ea h in
           let w = (limits p.capacity c.requires.some).window r in
           let x = s.3 in
           let y = m.3 in

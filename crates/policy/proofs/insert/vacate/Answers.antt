@@ -24,5 +24,5 @@ vacant-requires-in-Main-2 c = λ e.
     let s = (limits p.capacity c.requires.some).sum in
     let m = c.requires.limited.0 in
     let n = c.requires.limited.2 in
-    let o = c.main-len.ensures in
+    let o = c.main_len.ensures in
     omega arith

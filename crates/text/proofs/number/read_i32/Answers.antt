@@ -3,8 +3,8 @@ use Rattle.text.specs.Number.{plain, negative}
 use Rattle.text.proofs.Numbers.{signed_parsed, signed_exact, signed_none}
 use Rattle.text.proofs.number.read_i32.Goals as goal
 
-pub returns-then-not-begins-signed : goal.returns-then-not-begins-signed
-returns-then-not-begins-signed c =
+pub returns-then-not-begins_signed : goal.returns-then-not-begins_signed
+returns-then-not-begins_signed c =
     let bs = c.args.text.now in
     let p : (negative bs || plain bs) ≡ false = cc in
     let v = signed_none bs p in

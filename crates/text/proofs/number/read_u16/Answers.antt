@@ -3,8 +3,8 @@ use Rattle.text.specs.Number.{plain, unsigned_text}
 use Rattle.text.proofs.Numbers.{unsigned_parsed, unsigned_exact}
 use Rattle.text.proofs.number.read_u16.Goals as goal
 
-pub returns-then-not-begins-plain : goal.returns-then-not-begins-plain
-returns-then-not-begins-plain c =
+pub returns-then-not-begins_plain : goal.returns-then-not-begins_plain
+returns-then-not-begins_plain c =
     let bs = c.args.text.now in
     let p : plain bs ≡ false = cc in
     let v : None ≡ unsigned_text (2 ^ 16) bs = rw p in

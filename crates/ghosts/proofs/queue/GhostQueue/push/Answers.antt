@@ -4,13 +4,13 @@ use Rattle.ghosts.specs.Notes.{note_list}
 use Rattle.ghosts.proofs.Moves.{moved, fresh, pushed_new, pushed_old, spare_home, oldest_home, no_spare}
 use Rattle.ghosts.proofs.queue.GhostQueue.push.Goals as goal
 
-pub invariant-of-self : goal.invariant-of-self
-invariant-of-self c =
+pub invariant_of-self : goal.invariant_of-self
+invariant_of-self c =
     let g = c.args.self.now in
     let n = g.notes in
     let p = c.in-Some.node in
     let h = (spare_home n p c.in-Some.ensures).0 in
-    moved n g.counted g.unopened g.within c.push-front.new.self p 0 (omega arith) (low_node n.line p (omega arith)) c.push-front.ensures.lists c.push-front.ensures.homes (omega arith)
+    moved n g.counted g.unopened g.within c.push_front.new.self p 0 (omega arith) (low_node n.line p (omega arith)) c.push_front.ensures.lists c.push_front.ensures.homes (omega arith)
 
 pub returns-in-Some : goal.returns-in-Some
 returns-in-Some c =
@@ -22,14 +22,14 @@ returns-in-Some c =
     let k = h.1 in
     let a = g.counted in
     let b = g.within.0 in
-    record { pushed = pushed_new n a g.unopened g.within c.push-front.new.self p (low_node n.line p (omega arith)) c.push-front.ensures.lists (λ e. omega arith) (omega arith); capacity = refl }
+    record { pushed = pushed_new n a g.unopened g.within c.push_front.new.self p (low_node n.line p (omega arith)) c.push_front.ensures.lists (λ e. omega arith) (omega arith); capacity = refl }
 
-pub invariant-of-self-then-self : goal.invariant-of-self-then-self
-invariant-of-self-then-self c =
+pub invariant_of-self-then-self : goal.invariant_of-self-then-self
+invariant_of-self-then-self c =
     let g = c.args.self.now in
     let n = g.notes in
     let b = g.within.1 in
-    fresh n g.counted g.unopened g.within c.push-front-then-self.new.self n.opened 0 (omega arith) (omega arith) c.push-front-then-self.ensures.lists c.push-front-then-self.ensures.homes refl c.if-self.true
+    fresh n g.counted g.unopened g.within c.push_front-then-self.new.self n.opened 0 (omega arith) (omega arith) c.push_front-then-self.ensures.lists c.push_front-then-self.ensures.homes refl c.if-self.true
 
 pub returns-then-self : goal.returns-then-self
 returns-then-self c =
@@ -38,15 +38,15 @@ returns-then-self c =
     let u = g.unopened n.opened (omega arith) in
     let a = g.counted in
     let b = g.within.1 in
-    record { pushed = pushed_new n a g.unopened g.within c.push-front-then-self.new.self n.opened (omega arith) c.push-front-then-self.ensures.lists (λ e. omega arith) (omega arith); capacity = refl }
+    record { pushed = pushed_new n a g.unopened g.within c.push_front-then-self.new.self n.opened (omega arith) c.push_front-then-self.ensures.lists (λ e. omega arith) (omega arith); capacity = refl }
 
-pub invariant-of-self-2 : goal.invariant-of-self-2
-invariant-of-self-2 c =
+pub invariant_of-self-2 : goal.invariant_of-self-2
+invariant_of-self-2 c =
     let g = c.args.self.now in
     let n = g.notes in
     let p = c.in-ok-node.node in
     let h = oldest_home n p c.in-ok-node.ensures in
-    moved n g.counted g.unopened g.within c.push-front-2.new.self p 0 (omega arith) (low_node n.line p (omega arith)) c.push-front-2.ensures.lists c.push-front-2.ensures.homes (omega arith)
+    moved n g.counted g.unopened g.within c.push_front-2.new.self p 0 (omega arith) (low_node n.line p (omega arith)) c.push_front-2.ensures.lists c.push_front-2.ensures.homes (omega arith)
 
 pub returns : goal.returns
 returns c =
@@ -57,4 +57,4 @@ returns c =
     let a = g.counted in
     let b = g.within.0 in
     let s = no_spare n c.in-default.ensures in
-    record { pushed = pushed_old n a g.unopened g.within c.push-front-2.new.self p (low_node n.line p (omega arith)) c.push-front-2.ensures.lists c.in-ok-node.ensures (omega arith); capacity = refl }
+    record { pushed = pushed_old n a g.unopened g.within c.push_front-2.new.self p (low_node n.line p (omega arith)) c.push_front-2.ensures.lists c.in-ok-node.ensures (omega arith); capacity = refl }

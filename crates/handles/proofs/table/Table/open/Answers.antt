@@ -4,8 +4,8 @@ use Rattle.handles.specs.declared.slot.Slot.{Slot}
 use Rattle.handles.proofs.Placing.{cleared_sound}
 use Rattle.handles.proofs.table.Table.open.Goals as goal
 
-pub invariant-of-result : goal.invariant-of-result
-invariant-of-result g c = (
-  subst (λ (xs : List (Slot g.row.X.Denot)). Sound xs 0) (sym c.empty-all.ensures) (cleared_sound c.args.slots.now),
-  (c.capacity-of-capacity.ensures, tt),
+pub invariant_of-result : goal.invariant_of-result
+invariant_of-result g c = (
+  subst (λ (xs : List (Slot g.row.X.Denot)). Sound xs 0) (sym c.empty_all.ensures) (cleared_sound c.args.slots.now),
+  (c.capacity_of-capacity.ensures, tt),
 )

@@ -15,8 +15,8 @@ nowhere p =
 none : (p k : ℕ) → k < 4 → ◌≡◌ {A = ℕ} 0 (cond (eqb (get_or (replicate {A = ℕ} 512 4) p 4) k) 1 0)
 none p k l = rw (nowhere p, ne_eqb 4 k (λ e. omega arith))
 
-pub invariant-of-result : goal.invariant-of-result
-invariant-of-result c = (
+pub invariant_of-result : goal.invariant_of-result
+invariant_of-result c = (
   (refl, refl, refl, refl),
   (
     four _ refl refl refl refl,

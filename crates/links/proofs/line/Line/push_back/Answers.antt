@@ -28,8 +28,8 @@ attach-requires c =
       room = room_ok c.args.self.now.cells z l o c.args.node c.args.list (omega arith) (omega arith) c.detach.new.cells c.detach.ensures;
     }
 
-pub invariant-of-self : goal.invariant-of-self
-invariant-of-self c =
+pub invariant_of-self : goal.invariant_of-self
+invariant_of-self c =
     let z = c.args.self.now.sized in
     let l = c.args.self.now.linked in
     let o = c.args.self.now.once in (

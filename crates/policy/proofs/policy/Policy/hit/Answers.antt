@@ -3,8 +3,8 @@ use Rattle.queues.specs.Held.{held}
 use Rattle.policy.proofs.Keeps.{fewer_uses}
 use Rattle.policy.proofs.policy.Policy.hit.Goals as goal
 
-pub invariant-of-self : goal.invariant-of-self
-invariant-of-self c =
+pub invariant_of-self : goal.invariant_of-self
+invariant_of-self c =
     let k = c.args.self.now.kept in
     let l = c.args.self.now.limited in
     let f = fewer_uses (λ q. eqb q c.args.place) (held c.args.self.now.core.residents) (held c.hit.new.self) c.hit.ensures.held in

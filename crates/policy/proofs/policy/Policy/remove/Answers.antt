@@ -3,8 +3,8 @@ use Rattle.queues.specs.Held.{held}
 use Rattle.policy.proofs.Keeps.{fewer_drops}
 use Rattle.policy.proofs.policy.Policy.remove.Goals as goal
 
-pub invariant-of-self : goal.invariant-of-self
-invariant-of-self c =
+pub invariant_of-self : goal.invariant_of-self
+invariant_of-self c =
     let k = c.args.self.now.kept in
     let l = c.args.self.now.limited in
     let f = fewer_drops (λ _ ps. ps) (λ q. eqb q c.args.place) (held c.args.self.now.core.residents) (held c.release.new.self) c.release.ensures.held in

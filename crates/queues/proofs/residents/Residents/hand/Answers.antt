@@ -3,8 +3,8 @@ use Rattle.queues.proofs.Sound.{home_low}
 use Rattle.queues.proofs.Turns.{hand_home}
 use Rattle.queues.proofs.residents.Residents.hand.Goals as goal
 
-pub used-at-requires : goal.used-at-requires
-used-at-requires c =
+pub used_at-requires : goal.used_at-requires
+used_at-requires c =
     let s = c.args.self.now.slots in
     let h = hand_home s c.in-ok-place.place c.in-ok-place.ensures in
     let l = home_low s c.in-ok-place.place (omega arith) in

@@ -11,14 +11,14 @@ returns-then-place-lt512 c =
           hit_parts c.args.self.now.slots
           (record {
             line = c.args.self.now.slots.line;
-            states = c.meet-at.new.states;
+            states = c.meet_at.new.states;
             admitted = c.args.self.now.slots.admitted;
             admissions = c.args.self.now.slots.admissions;
             opened = c.args.self.now.slots.opened;
             window = c.args.self.now.slots.window;
           })
           c.args.place (omega arith)
-          (record { states = c.meet-at.ensures; admitted = refl; admissions = refl; opened = refl; window = refl }) refl;
+          (record { states = c.meet_at.ensures; admitted = refl; admissions = refl; opened = refl; window = refl }) refl;
       window = refl;
     }
 

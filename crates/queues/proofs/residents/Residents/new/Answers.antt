@@ -16,8 +16,8 @@ calm p =
       | inr h ↦ get_or_past (replicate 512 Plain) p Plain (let l = length-replicate 512 Plain in omega arith)
     ]
 
-pub invariant-of-result : goal.invariant-of-result
-invariant-of-result c =
+pub invariant_of-result : goal.invariant_of-result
+invariant_of-result c =
     let l = c.new.ensures.lists in
     let h = c.new.ensures.homes in
     let y = ap (λ (xss : List (List ℕ)). nth 0 xss) l in (

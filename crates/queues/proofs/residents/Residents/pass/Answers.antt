@@ -9,24 +9,24 @@ use Rattle.queues.proofs.ToMain.{chance_plain, calm_at, pass_parts}
 use Rattle.queues.proofs.Turns.{hand_home}
 use Rattle.queues.proofs.residents.Residents.pass.Goals as goal
 
-pub meet-at-requires : goal.meet-at-requires
-meet-at-requires c =
+pub meet_at-requires : goal.meet_at-requires
+meet_at-requires c =
     let s = c.args.self.now.slots in
     let h = hand_home s c.in-Some.place c.in-Some.ensures in
     let l = home_low s c.in-Some.place (omega arith) in
     let z = c.args.self.now.sized.0 in
     omega arith
 
-pub invariant-of-self : goal.invariant-of-self
-invariant-of-self c =
+pub invariant_of-self : goal.invariant_of-self
+invariant_of-self c =
     let s = c.args.self.now.slots in
     let p = c.in-Some.place in
     let h = hand_home s p c.in-Some.ensures in
-    let t = with_line s c.push-back.new.self c.meet-at.new.states in
+    let t = with_line s c.push_back.new.self c.meet_at.new.states in
     let k = chance_plain (state_of s p) (calm_at s.window s (sound_of c.args.self.now) p (λ e. omega arith)) in
     ghosts t
-    (backed_sound s t p (met (state_of s p) Chance) (restated s c.push-back.new.self c.meet-at.new.states p (met (state_of s p) Chance) c.meet-at.ensures) s.window 2 (omega arith) (omega arith)
-    (sound_of c.args.self.now) (home_opened s c.args.self.now.listed p (omega arith)) c.push-back.ensures.homes (ap is_young k) c.push-back.ensures.lists)
+    (backed_sound s t p (met (state_of s p) Chance) (restated s c.push_back.new.self c.meet_at.new.states p (met (state_of s p) Chance) c.meet_at.ensures) s.window 2 (omega arith) (omega arith)
+    (sound_of c.args.self.now) (home_opened s c.args.self.now.listed p (omega arith)) c.push_back.ensures.homes (ap is_young k) c.push_back.ensures.lists)
     c.args.self.now.«open»
 
 pub returns-in-Some : goal.returns-in-Some
@@ -34,12 +34,12 @@ returns-in-Some c =
     let s = c.args.self.now.slots in
     let p = c.in-Some.place in
     let h = hand_home s p c.in-Some.ensures in
-    let t = with_line s c.push-back.new.self c.meet-at.new.states in
+    let t = with_line s c.push_back.new.self c.meet_at.new.states in
     let k = chance_plain (state_of s p) (calm_at s.window s (sound_of c.args.self.now) p (λ e. omega arith)) in
     let w = split_first (list_of 2 s) p c.in-Some.ensures in
     record {
       held =
-          pass_parts s t p (met (state_of s p) Chance) (restated s c.push-back.new.self c.meet-at.new.states p (met (state_of s p) Chance) c.meet-at.ensures)
-          k (home_low s p (omega arith)) c.args.self.now.sized.0 c.push-back.ensures.lists w.rest w.is;
+          pass_parts s t p (met (state_of s p) Chance) (restated s c.push_back.new.self c.meet_at.new.states p (met (state_of s p) Chance) c.meet_at.ensures)
+          k (home_low s p (omega arith)) c.args.self.now.sized.0 c.push_back.ensures.lists w.rest w.is;
       window = refl;
     }

@@ -12,14 +12,14 @@ bounds-self-place c =
     let near = held_is c.args.self.now.slots c.args.place (not_free _ _ c.location.ensures c.in-Small.is) in
     home_low c.args.self.now.slots c.args.place (omega arith)
 
-pub invariant-of-self : goal.invariant-of-self
-invariant-of-self c =
+pub invariant_of-self : goal.invariant_of-self
+invariant_of-self c =
     let s = c.args.self.now.slots in
     let p = c.args.place in
     let near = held_is s p (not_free _ _ c.location.ensures c.in-Small.is) in
-    ghosts (placed s c.push-front.new.self p Plain)
-    (fronted_sound s (placed s c.push-front.new.self p Plain) p Plain (placed_restated s c.push-front.new.self p Plain) s.window 3 (omega arith) (omega arith)
-    (sound_of c.args.self.now) (home_opened s c.args.self.now.listed p (omega arith)) c.push-front.ensures.homes refl c.push-front.ensures.lists)
+    ghosts (placed s c.push_front.new.self p Plain)
+    (fronted_sound s (placed s c.push_front.new.self p Plain) p Plain (placed_restated s c.push_front.new.self p Plain) s.window 3 (omega arith) (omega arith)
+    (sound_of c.args.self.now) (home_opened s c.args.self.now.listed p (omega arith)) c.push_front.ensures.homes refl c.push_front.ensures.lists)
     c.args.self.now.«open»
 
 pub returns-in-Free : goal.returns-in-Free
@@ -37,7 +37,7 @@ returns-in-Small c =
     record {
       answer = resides_so p (parts_of s) some;
       held =
-          released_parts s (placed s c.push-front.new.self p Plain) p Plain (placed_restated s c.push-front.new.self p Plain)
-          (held_is s p some) c.push-front.ensures.lists;
+          released_parts s (placed s c.push_front.new.self p Plain) p Plain (placed_restated s c.push_front.new.self p Plain)
+          (held_is s p some) c.push_front.ensures.lists;
       window = refl;
     }

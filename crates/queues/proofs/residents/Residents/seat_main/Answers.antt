@@ -14,14 +14,14 @@ bounds-self-place c =
     let h = top_home s c.in-ok-place.place c.in-ok-place.ensures in
     home_low s c.in-ok-place.place (omega arith)
 
-pub invariant-of-self : goal.invariant-of-self
-invariant-of-self c =
+pub invariant_of-self : goal.invariant_of-self
+invariant_of-self c =
     let s = c.args.self.now.slots in
     let p = c.in-ok-place.place in
     let h = top_home s p c.in-ok-place.ensures in
-    ghosts (placed s c.push-back.new.self p Plain)
-    (backed_sound s (placed s c.push-back.new.self p Plain) p Plain (placed_restated s c.push-back.new.self p Plain) s.window 2 (omega arith) (omega arith)
-    (sound_of c.args.self.now) (home_opened s c.args.self.now.listed p (omega arith)) c.push-back.ensures.homes refl c.push-back.ensures.lists)
+    ghosts (placed s c.push_back.new.self p Plain)
+    (backed_sound s (placed s c.push_back.new.self p Plain) p Plain (placed_restated s c.push_back.new.self p Plain) s.window 2 (omega arith) (omega arith)
+    (sound_of c.args.self.now) (home_opened s c.args.self.now.listed p (omega arith)) c.push_back.ensures.homes refl c.push_back.ensures.lists)
     c.args.self.now.«open»
 
 pub returns : goal.returns
@@ -33,7 +33,7 @@ returns c =
     record {
       answer = c.in-ok-place.ensures;
       held =
-          seat_main_parts s (placed s c.push-back.new.self p Plain) p Plain (placed_restated s c.push-back.new.self p Plain) refl
-          (home_low s p (omega arith)) c.args.self.now.sized.0 c.push-back.ensures.lists s.window w.rest w.is;
+          seat_main_parts s (placed s c.push_back.new.self p Plain) p Plain (placed_restated s c.push_back.new.self p Plain) refl
+          (home_low s p (omega arith)) c.args.self.now.sized.0 c.push_back.ensures.lists s.window w.rest w.is;
       window = refl;
     }

@@ -8,9 +8,9 @@ use Rattle.queues.proofs.Sound.{opened_low}
 use Rattle.queues.proofs.Turns.{at_hand, no_hand, main_long, turn_parts, stop_parts}
 use Rattle.queues.proofs.residents.Residents.sweep.Goals as goal
 
-pub returns-then-main-len-eq0 : goal.returns-then-main-len-eq0
-returns-then-main-len-eq0 c =
-    let e = nil_from_length (held c.args.self.now).main (sym c.main-len.ensures ∙ (omega arith)) in
+pub returns-then-main_len-eq0 : goal.returns-then-main_len-eq0
+returns-then-main_len-eq0 c =
+    let e = nil_from_length (held c.args.self.now).main (sym c.main_len.ensures ∙ (omega arith)) in
     record {
       answer = sym (ap (λ (ms : List (Resident ℕ)). told (sweep ms)) e);
       held = sym (ap (λ (ms : List (Resident ℕ)). turned (sweep ms) (held c.args.self.now)) e);

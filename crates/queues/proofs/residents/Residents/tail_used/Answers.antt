@@ -3,8 +3,8 @@ use Rattle.queues.proofs.Sound.{home_low}
 use Rattle.queues.proofs.Tail.{tail_home, tail_used_is}
 use Rattle.queues.proofs.residents.Residents.tail_used.Goals as goal
 
-pub used-at-requires : goal.used-at-requires
-used-at-requires c =
+pub used_at-requires : goal.used_at-requires
+used_at-requires c =
     let s = c.args.self.now.slots in
     let h = tail_home s c.in-Some.place c.in-Some.ensures in
     let l = home_low s c.in-Some.place (omega arith) in
@@ -12,4 +12,4 @@ used-at-requires c =
     omega arith
 
 pub returns-in-Some : goal.returns-in-Some
-returns-in-Some c = c.used-at.ensures ∙ tail_used_is c.args.self.now.slots c.in-Some.place c.in-Some.ensures
+returns-in-Some c = c.used_at.ensures ∙ tail_used_is c.args.self.now.slots c.in-Some.place c.in-Some.ensures

@@ -4,11 +4,11 @@ use Rattle.queues.proofs.Sound.{ghosts, sound_of}
 use Rattle.queues.proofs.Unlocked.{widened, unlocked_parts, unlocked_sound}
 use Rattle.queues.proofs.residents.Residents.unlock.Goals as goal
 
-pub invariant-of-self : goal.invariant-of-self
-invariant-of-self c =
+pub invariant_of-self : goal.invariant_of-self
+invariant_of-self c =
     let s = c.args.self.now.slots in
-    ghosts (widened s c.push-front.new.self)
-    (unlocked_sound s.window s c.push-front.new.self (sound_of c.args.self.now) c.if-self-lt512.true c.push-front.ensures.lists c.push-front.ensures.homes)
+    ghosts (widened s c.push_front.new.self)
+    (unlocked_sound s.window s c.push_front.new.self (sound_of c.args.self.now) c.if-self-lt512.true c.push_front.ensures.lists c.push_front.ensures.homes)
     c.args.self.now.«open»
 
 pub returns-then-self-lt512 : goal.returns-then-self-lt512
@@ -16,6 +16,6 @@ returns-then-self-lt512 c =
     let s = c.args.self.now.slots in
     record {
       answer = sym (lt-ltb s.opened 512 c.if-self-lt512.true);
-      held = unlocked_parts s.window s c.push-front.new.self (sound_of c.args.self.now) c.if-self-lt512.true c.push-front.ensures.lists;
+      held = unlocked_parts s.window s c.push_front.new.self (sound_of c.args.self.now) c.if-self-lt512.true c.push_front.ensures.lists;
       window = refl;
     }
