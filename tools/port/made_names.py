@@ -6,7 +6,7 @@ usage: tools/port/made_names.py     at the top of a checkout, after respell.py
 import os
 import re
 
-NAME = re.compile(r"[^\W\d][\w'\-]*", re.UNICODE)
+NAME = re.compile(r"(?<!\w)[^\W\d][\w'\-]*", re.UNICODE)
 FIXED = [("invariant-of-", "invariant_of-")]
 
 

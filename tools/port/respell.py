@@ -13,7 +13,7 @@ import sys
 
 TOP = "crates"
 # an identifier of the logic; a dash joins parts
-NAME = re.compile(r"[^\W\d][\w'\-]*", re.UNICODE)
+NAME = re.compile(r"(?<!\w)[^\W\d][\w'\-]*", re.UNICODE)
 DECLARED = re.compile(r"^(\s*)(?:(?:abbrev|unfoldable|pub)\s+)*([^\W\d][\w'\-]*)((?:\s*(?:\([^()]*\)|\{[^{}]*\}))*)\s*:(?:\s(.*))?$")
 TYPE = re.compile(r"^\s*(?:pub\s+)?(?:data|record)\s+([^\W\d][\w'\-]*)")
 # names that would fall together: a lemma beside the definition that it speaks of, and a definition beside the function of the code

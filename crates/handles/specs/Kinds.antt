@@ -20,4 +20,4 @@ listed hashes (place ∷ more) = slice_index hashes place
 abbrev pub mixed : ℕ → List ℕ → ℕ
 mixed seed [] = 0
 mixed seed (sheet ∷ []) = 0
-mixed seed (sheet ∷ line ∷ more) = bit_xor (sheet * 65536 + line) seed * 0x9_e3779_b97_f4_a7_c15 % 2 ^ 64
+mixed seed (sheet ∷ line ∷ more) = bit_xor (sheet * 65536 + line) seed * 0x9E3779B97F4A7C15 % 2 ^ 64

@@ -4,7 +4,7 @@ use Rattle.handles.specs.declared.slot.Slot.{Slot}
 
 -- the meta of a slot that holds nothing
 abbrev pub empty : ℕ
-empty = 0x_ffffffff
+empty = 0xFFFFFFFF
 
 -- the top 8 bits of a 64-bit hash
 abbrev pub fingerprint : ℕ → ℕ
