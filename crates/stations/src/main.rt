@@ -55,7 +55,7 @@ fn run(rt: &HostRuntime) -> anyhow::Result<()> {
             }
         }
     }
-    if told { Ok(()) } else { Err(USAGE.into()) }
+    if told { Ok(()) } else { Err(anyhow!(USAGE)) }
 }
 
 fn main(rt: HostRuntime) -> anyhow::Result<()> {
