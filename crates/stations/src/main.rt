@@ -1,6 +1,7 @@
 //! `stations kind=number sheet=FILE KEY ..`: where the stations of a survey sheet lie.
 //!
 //! A later `kind=` or `sheet=` holds for the keys after it.
+#![tactic(auto)]
 
 use anyhow::{Context, anyhow};
 use keys::choice::{KeyKind, read_kind};
@@ -55,7 +56,7 @@ fn run(rt: &HostRuntime) -> anyhow::Result<()> {
             }
         }
     }
-    if told { Ok(()) } else { Err(USAGE.into()) }
+    if told { Ok(()) } else { Err(anyhow!(USAGE)) }
 }
 
 fn main(rt: HostRuntime) -> anyhow::Result<()> {
