@@ -12,7 +12,7 @@ returns c =
     let g = c.args.core.now.ghosts in
     record {
       evicted =
-          tail_evicted_lem q c.release.new.self c.in-ok-tail.tail g.notes.capacity (remembered g) (remembered c.push.new.self) c.push.result
-          c.in-ok-tail.ensures c.release.ensures.held c.push.ensures.pushed;
+          tail_evicted_lem q c.release.new.self c.in_ok-tail.tail g.notes.capacity (remembered g) (remembered c.push.new.self) c.push.result
+          c.in_ok-tail.ensures c.release.ensures.held c.push.ensures.pushed;
       same = (refl, refl, refl, c.release.ensures.window, c.push.ensures.capacity);
     }
