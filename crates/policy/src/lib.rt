@@ -1,5 +1,6 @@
 //! The Clock2Q+ replacement policy over places: it knows neither keys nor values. Small and Main
 //! hold places of residents, the free stack those that were given back, Ghost its own nodes.
+#![tactic(auto)]
 
 mod calls;
 mod core;

@@ -1,5 +1,5 @@
-use Rattle.std.proofs.Common.{◌≡◌, ℕ, refl, ap, ◌∙◌}
-use Rattle.machine.specs.Replacement.{Parts, sweep}
+use Rattle.std.proofs.Common.{refl, ap, ◌∙◌}
+use Rattle.machine.specs.Replacement.{sweep}
 use Rattle.queues.specs.Held.{held}
 use Rattle.ghosts.specs.Remembered.{remembered}
 use Rattle.policy.specs.View.{noting}

@@ -1,8 +1,5 @@
-use Rattle.std.proofs.Common.{◌≡◌, ℕ, sym, refl, ap, ◌∙◌}
-use Rattle.machine.specs.Replacement.{Parts, ended}
-use Rattle.queues.specs.Held.{held}
+use Rattle.std.proofs.Common.{refl}
 use Rattle.ghosts.specs.Remembered.{remembered}
-use Rattle.policy.specs.View.{noting}
 use Rattle.policy.proofs.Outs.{tail_evicted_lem}
 use Rattle.policy.proofs.steps.evict_tail.Goals as goal
 

@@ -1,4 +1,4 @@
-use Rattle.std.proofs.Common.{◌≡◌, eqb, ◌∙◌, arith}
+use Rattle.std.proofs.Common.{eqb, ◌∙◌, arith}
 use Rattle.queues.specs.Held.{held}
 use Rattle.policy.proofs.Keeps.{fewer_uses}
 use Rattle.policy.proofs.policy.Policy.hit.Goals as goal

@@ -1,4 +1,4 @@
-use Rattle.std.proofs.Common.{◌≡◌, ℕ, ◌≤◌, max, sym, refl, ap, ◌∙◌, arith}
+use Rattle.std.proofs.Common.{ℕ, max, sym, ap, ◌∙◌, arith}
 use Rattle.machine.specs.Limits.{small_limit, main_limit, ghost_limit, window}
 use Rattle.machine.specs.Replacement.{seated, vacated}
 use Rattle.policy.specs.View.{view}

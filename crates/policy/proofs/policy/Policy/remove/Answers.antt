@@ -1,4 +1,4 @@
-use Rattle.std.proofs.Common.{◌≡◌, eqb, ◌∙◌, arith}
+use Rattle.std.proofs.Common.{eqb, ◌∙◌, arith}
 use Rattle.queues.specs.Held.{held}
 use Rattle.policy.proofs.Keeps.{fewer_drops}
 use Rattle.policy.proofs.policy.Policy.remove.Goals as goal

@@ -1,4 +1,4 @@
-use Rattle.std.proofs.Common.{◌≡◌, ◌∙◌, arith}
+use Rattle.std.proofs.Common.{◌∙◌, arith}
 use Rattle.machine.specs.Replacement.{highest_first}
 use Rattle.queues.specs.Held.{held}
 use Rattle.policy.specs.View.{flagged}
