@@ -5,7 +5,7 @@ use Rattle.std.proofs.lemmas.Bool.{cases_lt, le-leb, lt-leb}
 use Rattle.machine.specs.Limits.{small_limit, main_limit, ghost_limit, window}
 use Rattle.queues.specs.Slots.{list_of}
 use Rattle.queues.specs.Held.{resident}
-use Rattle.policy.specs.declared.core.Core.{Core}
+use Rattle.policy.specs.declared.makeup.Core.{Core}
 use Rattle.policy.specs.View.{view}
 
 pub record Limits (c : ℕ) : Type 0 where

@@ -10,7 +10,7 @@ use Rattle.policy.specs.declared.plan.Admission.{Admission}
 use Rattle.policy.specs.declared.plan.Admission.TheVariants.{Small, Main}
 use Rattle.policy.specs.declared.plan.Vacancy.{Vacancy}
 use Rattle.policy.specs.declared.plan.Inserted.{Inserted}
-use Rattle.policy.specs.declared.core.Core.{Core}
+use Rattle.policy.specs.declared.makeup.Core.{Core}
 use Rattle.machine.specs.Limits.{small_limit}
 use Rattle.policy.specs.View.{view, Limited, Kept}
 

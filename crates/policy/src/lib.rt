@@ -3,9 +3,9 @@
 #![tactic(auto)]
 
 mod calls;
-mod core;
 mod insert;
 mod insertion;
+mod makeup;
 pub mod plan;
 mod policy;
 mod retain;
