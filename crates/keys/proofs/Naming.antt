@@ -1,5 +1,5 @@
 -- Two spellings mean one name exactly where they are as long and alike at each place.
-use Rattle.std.proofs.Common.{◌≡◌, ℕ, ◌+◌, ◌<◌, Bool, true, false, ◌&&◌, List, map, length, get_or, drop, Decides, sym, refl, ap, ◌∙◌, arith}
+use Rattle.std.proofs.Common.{◌≡◌, ℕ, ◌+◌, ◌<◌, true, false, ◌&&◌, List, map, length, get_or, drop, Decides, sym, ap, ◌∙◌, arith}
 use Rattle.std.proofs.lemmas.List.{same_lists, get_or-map, length-map, at_drop_more, at_drop_all}
 use Rattle.std.proofs.lemmas.Bool.{false≢true}
 use Rattle.keys.specs.Hash.{hash_from, mixed}

@@ -1,4 +1,5 @@
 //! Key kinds: what a key means, how it is compared, hashed and read from text.
+#![tactic(auto)]
 
 pub mod choice;
 pub mod hash;

@@ -1,5 +1,5 @@
 -- What a list of entries gives, one entry after another.
-use Rattle.std.proofs.Common.{◌≡◌, ℕ, ◌+◌, ◌<◌, Bool, cond, List, [], ◌∷◌, map, length, get_or, drop, Some, None, Ok, Err, Decides, Option, Result, sym, refl, ap, ◌∙◌, arith}
+use Rattle.std.proofs.Common.{◌≡◌, ℕ, ◌+◌, ◌<◌, Bool, cond, List, map, length, get_or, drop, Some, None, Ok, Err, Decides, Option, sym, refl, ap, ◌∙◌, arith}
 use Rattle.std.proofs.lemmas.Slice.Eq.{bytes_eq-Decides}
 use Rattle.std.proofs.lemmas.List.{at_drop_more, at_drop_all, nil_from_length}
 use Rattle.std.proofs.lemmas.Bool.Decides.{same_from_decides}
@@ -8,12 +8,10 @@ use Rattle.survey.specs.Entry.{line_text}
 use Rattle.survey.specs.declared.entry.Entry.{Entry}
 use Rattle.survey.specs.declared.station.Station.{Station}
 use Rattle.text.proofs.Lines.{lines_cut, lines_uncut}
-use Rattle.text.specs.Field.{and_then, cut}
-use Rattle.text.specs.Line.{lines_of}
+use Rattle.text.specs.Field.{cut}
 use Rattle.loaders.specs.Fault.{fault}
 use Rattle.loaders.specs.Look.{look, sheet_entries, whole}
 use Rattle.loaders.specs.declared.fault.Cause.TheVariants.{NoRecord, BrokenLine}
-use Rattle.loaders.specs.declared.fault.Fault.{Fault}
 
 -- the comparison that `look` makes is the key's own
 same_tells : (r : Bool) (xs ys : List ℕ) → Decides r (xs ≡ ys) → bytes_eq xs ys ≡ r

@@ -1,5 +1,5 @@
 -- What a layer makes of the answers below it.
-use Rattle.std.specs.Prelude.{ℕ, Bool, cond, List, ℤ, pos, negsuc, ◌+ℤ◌, Some, None, Ok, Err, Option, Result, nat_lt}
+use Rattle.std.specs.Prelude.{cond, ℤ, pos, negsuc, ◌+ℤ◌, Some, None, Ok, Err, Option, Result, nat_lt}
 use Rattle.std.specs.Option.{option_map}
 use Rattle.survey.specs.Station.{at}
 use Rattle.survey.specs.declared.station.Station.{Station}

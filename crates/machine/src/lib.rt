@@ -1,4 +1,5 @@
 //! The plain machine of the cache: the types of its calls and answers, its limits, and in `specs/` its state and every step.
+#![tactic(auto)]
 
 pub mod call;
 pub mod cases;

@@ -6,7 +6,7 @@ use Rattle.std.proofs.lemmas.Bool.{or_right, or_parts}
 use Rattle.loaders.specs.declared.fault.Fault.{Fault}
 use Rattle.machine.specs.declared.call.Answer.{Answer}
 use Rattle.machine.specs.Limits.{window}
-use Rattle.machine.specs.Replacement.{young, plain, used, aged, Resident, Swept, hit_if, marked, is_used, sweep}
+use Rattle.machine.specs.Replacement.{young, plain, aged, Resident, Swept, hit_if, marked, is_used, sweep}
 use Rattle.machine.specs.Machine.{Word, Item, State, Asked, same, has}
 use Rattle.machine.specs.Run.{Event, word_of, queues, event_of}
 use Rattle.machine_laws.specs.Words.{once, occurs, resident, hits, lays, comes_in, newcomer, chances, passes, renews, joins_main}

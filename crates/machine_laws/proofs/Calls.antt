@@ -9,7 +9,6 @@ use Rattle.machine.specs.declared.call.Answer.{Answer}
 use Rattle.machine.specs.declared.call.Answer.TheVariants.{Refused}
 use Rattle.machine.specs.Replacement.{Resident, hit_if, hit, uses, drops}
 use Rattle.machine.specs.Machine.{Word, Item, State, Order, Asked, same, has, is_at, look, cell_of, arrival, settled, report_of}
-use Rattle.machine.specs.Machine as machine
 use Rattle.machine.specs.Run.{Event, word_of, queues, event_of}
 use Rattle.machine_laws.specs.Words.{once, occurs, resident, takes_out, names, is_use_of, lays, laid_by, is_refused, value_in, report_in, chances_told, answered, comes_in, last_laid, stay}
 use Rattle.machine_laws.specs.Laws.{IsLast, Arrival, LawfulEvent}

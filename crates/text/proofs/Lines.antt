@@ -1,9 +1,9 @@
 -- The lines of a text, one after another.
-use Rattle.std.proofs.Common.{◌≡◌, ℕ, zero, suc, ◌<◌, eqb, List, [], ◌∷◌, ◌++◌, length, Some, None, Option, sym, refl, ap, ◌∙◌, arith}
-use Rattle.std.proofs.lemmas.Bool.{eq-eqb, ne_eqb}
+use Rattle.std.proofs.Common.{◌≡◌, ℕ, ◌<◌, List, [], ◌∷◌, ◌++◌, length, Some, None, refl, ap, ◌∙◌, arith}
+use Rattle.std.proofs.lemmas.Bool.{ne_eqb}
 use Rattle.text.proofs.Fields.{Lacks, cut_is, cut_lacks, lacks_rest}
 use Rattle.text.specs.Field.{cut}
-use Rattle.text.specs.Line.{headed, lines_of}
+use Rattle.text.specs.Line.{lines_of}
 
 -- a line up to its line feed, and the lines after it
 lines_more : (xs ys : List ℕ) → Lacks 10 xs → lines_of (xs ++ (10 ∷ ys)) ≡ Some xs ∷ lines_of ys

@@ -1,4 +1,4 @@
-use Rattle.std.proofs.Common.{◌≡◌, ℕ, ◌<◌, length, get_or, sym, refl, ◌∙◌, arith, below_more}
+use Rattle.std.proofs.Common.{sym, refl, ◌∙◌, arith, below_more}
 use Rattle.keys.specs.Named.{folded}
 use Rattle.keys.proofs.Naming.{decides_false, same_from_places, apart_at, apart_length}
 use Rattle.keys.proofs.named.alike.Goals as goal

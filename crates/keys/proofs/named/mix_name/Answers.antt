@@ -1,4 +1,4 @@
-use Rattle.std.proofs.Common.{◌≡◌, ◌+◌, map, drop, sym, ap, ◌∙◌, arith}
+use Rattle.std.proofs.Common.{◌+◌, map, drop, sym, ap, ◌∙◌, arith}
 use Rattle.keys.specs.Hash.{hash_from, mixed}
 use Rattle.keys.specs.Named.{folded}
 use Rattle.keys.proofs.Naming.{hash_more, hash_all}

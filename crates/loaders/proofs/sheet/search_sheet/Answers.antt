@@ -6,20 +6,20 @@ use Rattle.text.specs.Field.{cut}
 use Rattle.loaders.proofs.Looking.{sheet_end, sheet_more, sheet_uncut, sheet_unread}
 use Rattle.loaders.proofs.sheet.search_sheet.Goals as goal
 
-pub returns-in-default : goal.returns-in-default
-returns-in-default g c =
+pub returns-in_default : goal.returns-in_default
+returns-in_default g c =
     let bs = c.lines.rest.now in
     let some : 0 < length bs = grind (arith, nat_tests) in
-    let none : cut 10 bs ≡ None = sym c.in-default.ensures in
+    let none : cut 10 bs ≡ None = sym c.in_default.ensures in
     ap Err c.new-broken.ensures ∙ sym (sheet_uncut g.K.WrittenKey.meant (c.lines.before + 1) bs (g.K.Key.meaning c.args.key.now) some none) ∙ c.lines.invariant.1
 
-pub returns-in-default-read_entry : goal.returns-in-default-read_entry
-returns-in-default-read_entry g c =
+pub returns-in_default-read_entry : goal.returns-in_default-read_entry
+returns-in_default-read_entry g c =
     let bs = c.lines.rest.now in
     let line = c.in-Some.line.now in
     let after = c.in-Some.after.now in
     let parts : cut 10 bs ≡ Some (line, after) = sym c.in-Some.ensures in
-    let none : line_text g.K.WrittenKey.meant line ≡ None = sym c.in-default-read_entry.ensures in
+    let none : line_text g.K.WrittenKey.meant line ≡ None = sym c.in_default-read_entry.ensures in
     ap Err c.new-broken.ensures ∙ sym (sheet_unread g.K.WrittenKey.meant (c.lines.before + 1) bs (g.K.Key.meaning c.args.key.now) line after parts none) ∙ c.lines.invariant.1
 
 pub returns-then-same : goal.returns-then-same

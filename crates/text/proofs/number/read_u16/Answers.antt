@@ -1,4 +1,4 @@
-use Rattle.std.proofs.Common.{◌≡◌, ◌^◌, true, false, None, sym, ◌∙◌, arith}
+use Rattle.std.proofs.Common.{◌≡◌, ◌^◌, true, false, None, ◌∙◌, arith}
 use Rattle.text.specs.Number.{plain, unsigned_text}
 use Rattle.text.proofs.Numbers.{unsigned_parsed, unsigned_exact}
 use Rattle.text.proofs.number.read_u16.Goals as goal

@@ -56,5 +56,5 @@ returns c =
     let h = oldest_home n p c.in-ok-node.ensures in
     let a = g.counted in
     let b = g.within.0 in
-    let s = no_spare n c.in-default.ensures in
+    let s = no_spare n c.in_default.ensures in
     record { pushed = pushed_old n a g.unopened g.within c.push_front-2.new.self p (low_node n.line p (omega arith)) c.push_front-2.ensures.lists c.in-ok-node.ensures (omega arith); capacity = refl }
