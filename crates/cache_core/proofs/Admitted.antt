@@ -23,7 +23,7 @@ use Rattle.records.specs.Columns.{key_at_lem, word_at, keyed}
 use Rattle.records.proofs.Keyed.{keyed_length, key_here, key_elsewhere, remembered_stays}
 use Rattle.cache_core.specs.declared.inner.Inner.{Inner}
 use Rattle.cache_core.specs.View.{places, or_empty, value_at, bare, rekeyed, word_in, item_at, cell_at, seen}
-use Rattle.cache_core.specs.Tied.{Tied}
+use Rattle.cache_core.specs.Tied.{TiedWithin}
 use Rattle.cache_core.specs.Filing.{Laid}
 use Rattle.cache_core.specs.Departing.{Departs}
 use Rattle.cache_core.proofs.Looked.{same_bears}
@@ -39,7 +39,7 @@ use Rattle.cache_core.proofs.Readied.{half, Ready, ready_plain, plain_some, plai
 module _ {K V : Type 0} (mean : K → List ℕ) (hashed : List ℕ → ℕ) (c : ℕ) (known : Bool) (s : Parts ℕ ℕ ℕ) (place : ℕ) where
   -- halfway, from what the departure did
   pub readied :
-      (x y : Inner K V) (noted : Option Noted) (left : Option Part) → Tied mean hashed c x.records.now s x.residents x.remembered → Orderly c s → 1 ≤ c →
+      (x y : Inner K V) (noted : Option Noted) (left : Option Part) → TiedWithin mean hashed c x.records.now s x.residents x.remembered → Orderly c s → 1 ≤ c →
       place ≡ place_at (vacated (λ _. node_of noted) (λ q. q) c known s).spot → Orderly c (seated c (vacated (λ _. node_of noted) (λ q. q) c known s) place) → place < length x.records.now →
       left ≡ (vacated (λ _. node_of noted) (λ q. q) c known s).left → Told s.remembered left noted → Departs mean hashed x place noted left y →
       Ready mean hashed c (node_of noted) known s x.records.now place y.records.now y.residents y.remembered
@@ -75,7 +75,7 @@ module _ {K V : Type 0} (mean : K → List ℕ) (hashed : List ℕ → ℕ) (c :
       (subst (λ (i : KeyIndex). Ready mean hashed c 0 known s rs place rs i x.remembered) (sym dep.1)
       (ready_plain mean hashed c 0 known s rs place x.residents x.remembered t at x.residents e ti)))
 
-  module _ (node : ℕ) (rs : List (Record K V)) (i j : KeyIndex) (key : K) (t : Tied mean hashed c rs s i j) (at : place ≡ place_at (half mean hashed c node known s rs place).spot) (after : Orderly c (seated c (half mean hashed c node known s rs place) place)) (within : place < length rs)
+  module _ (node : ℕ) (rs : List (Record K V)) (i j : KeyIndex) (key : K) (t : TiedWithin mean hashed c rs s i j) (at : place ≡ place_at (half mean hashed c node known s rs place).spot) (after : Orderly c (seated c (half mean hashed c node known s rs place) place)) (within : place < length rs)
       (no_resident : how_many (bears (word_at mean of_resident rs) (mean key)) (places s) ≡ 0) (no_ghost : how_many (bears (word_at mean of_ghost rs) (mean key)) s.remembered ≡ 0)
       (qs qs' : List (Record K V)) (i' j' i'' : KeyIndex) (ready : Ready mean hashed c node known s rs place qs i' j') (lay : Laid mean hashed of_resident qs i' place key qs' i'') where
     abbrev v : Vacated ℕ ℕ ℕ
@@ -111,7 +111,7 @@ module _ {K V : Type 0} (mean : K → List ℕ) (hashed : List ℕ → ℕ) (c :
     key_same : (q : ℕ) → 0 < occurs q (places v.parts) → key_at_lem of_resident laid q ≡ key_at_lem of_resident rs q
     key_same q some = key_elsewhere of_resident qs place key q (apart q some) ∙ ready.same q
 
-    laid_tied : Tied mean hashed c laid (seated c v place) i'' j'
+    laid_tied : TiedWithin mean hashed c laid (seated c v place) i'' j'
     laid_tied =
         tied_after mean hashed c node place s v (leaves c node s known) at rs laid i j i'' j' (mean key) t
         (keyed_length of_resident qs place key ∙ ready.long) no_resident no_ghost
@@ -123,8 +123,8 @@ module _ {K V : Type 0} (mean : K → List ℕ) (hashed : List ℕ → ℕ) (c :
         let b = ready.counts x in
         omega arith)
 
-    pub admitted_tied : Tied mean hashed c qs' (seated c v place) i'' j'
-    admitted_tied = subst (λ (l : List (Record K V)). Tied mean hashed c l (seated c v place) i'' j') (sym done.0) laid_tied
+    pub admitted_tied : TiedWithin mean hashed c qs' (seated c v place) i'' j'
+    admitted_tied = subst (λ (l : List (Record K V)). TiedWithin mean hashed c l (seated c v place) i'' j') (sym done.0) laid_tied
 
     -- the newcomer is found in its place
     pub admitted_resides : Some place ≡ first_by (bears (word_at mean of_resident qs') (mean key)) (places (seated c v place))

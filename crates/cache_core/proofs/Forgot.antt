@@ -18,7 +18,7 @@ use Rattle.records.specs.declared.column.Column.TheVariants.{Resident as of_resi
 use Rattle.records.specs.declared.record.Record.{Record}
 use Rattle.records.specs.Columns.{word_at}
 use Rattle.cache_core.specs.View.{places, word_in, item_at, cell_at, seen}
-use Rattle.cache_core.specs.Tied.{Tied}
+use Rattle.cache_core.specs.Tied.{TiedWithin}
 use Rattle.cache_core.proofs.Looked.{here}
 use Rattle.cache_core.proofs.Only.{passes, its_word, only}
 use Rattle.cache_core.proofs.Standing.{Orderly, same_occurs}
@@ -52,7 +52,7 @@ module _ {K V : Type 0} (mean : K → List ℕ) (rs : List (Record K V)) (w : Li
       ap (λ (l : List (List ℕ)). record { small = (seen mean d rs s).small; main = (seen mean d rs s).main; remembered = l; free = (seen mean d rs s).free; opened = s.opened })
       (sym (none_forgotten w (map (word_in mean of_ghost rs) s.remembered) e))
 
-  module _ (hashed : List ℕ → ℕ) (c : ℕ) (s : Parts ℕ ℕ ℕ) (i j : KeyIndex) (node : ℕ) (t : Tied mean hashed c rs s i j) (o : Orderly c s) (within : (q : ℕ) → 0 < occurs q s.remembered → q < length rs) (found : Some node ≡ first_by (bears lying w) s.remembered) where
+  module _ (hashed : List ℕ → ℕ) (c : ℕ) (s : Parts ℕ ℕ ℕ) (i j : KeyIndex) (node : ℕ) (t : TiedWithin mean hashed c rs s i j) (o : Orderly c s) (within : (q : ℕ) → 0 < occurs q s.remembered → q < length rs) (found : Some node ≡ first_by (bears lying w) s.remembered) where
     there : (bears lying w node ≡ true) × (0 < occurs node s.remembered)
     there = passes mean of_ghost rs w s.remembered node found
 
@@ -72,7 +72,7 @@ module _ {K V : Type 0} (mean : K → List ℕ) (rs : List (Record K V)) (w : Li
         (all_from (λ q. same w (word_in mean of_ghost rs q) ≡ eqb q node) s.remembered (only mean of_ghost rs w s.remembered node found within (t.remembered.apart w)))
 
     -- and the indexes are right after
-    pub forgets_tied : (j' : KeyIndex) → Ties hashed lying (others node s.remembered) j' → Tied mean hashed c rs (forgets (λ q. eqb q node) s) i j' × (how_many (bears lying w) (others node s.remembered) ≡ 0)
+    pub forgets_tied : (j' : KeyIndex) → Ties hashed lying (others node s.remembered) j' → TiedWithin mean hashed c rs (forgets (λ q. eqb q node) s) i j' × (how_many (bears lying w) (others node s.remembered) ≡ 0)
     forgets_tied j' tj = (
       record {
         sized = t.sized;

@@ -22,7 +22,7 @@ use Rattle.records.specs.declared.record.Record.{Record}
 use Rattle.records.specs.Columns.{key_of, key_at_lem, word_at, keyed}
 use Rattle.records.proofs.Keyed.{keyed_length, key_here, key_elsewhere, resident_stays}
 use Rattle.cache_core.specs.View.{places, or_empty, value_at, bare, word_in, item_at, cell_at, seen}
-use Rattle.cache_core.specs.Tied.{Tied}
+use Rattle.cache_core.specs.Tied.{TiedWithin}
 use Rattle.cache_core.proofs.Standing.{Orderly, same_occurs}
 use Rattle.cache_core.proofs.Leaving.{Leaves, leaves, noted_by, from_small}
 use Rattle.cache_core.proofs.Bare.{bare_noted}
@@ -72,7 +72,7 @@ module _ {K V : Type 0} (mean : K → List ℕ) (hashed : List ℕ → ℕ) (c n
     pub counts : (x : List ℕ) → how_many (bears (word_at mean of_ghost qs) x) half.parts.remembered ≤ cond (is_some half.left) (cond (bears (word_at mean of_resident rs) x place) 1 0) 0 + how_many (bears (word_at mean of_ghost rs) x) s.remembered
     pub first : (d : V) → meant mean d c known s node rs ≡ carry_vacated (item_at mean d rs) (word_in mean of_ghost qs) (cell_at mean d rs) half
 
-  module _ (i j : KeyIndex) (t : Tied mean hashed c rs s i j) (at : place ≡ place_at half.spot) where
+  module _ (i j : KeyIndex) (t : TiedWithin mean hashed c rs s i j) (at : place ≡ place_at half.spot) where
     out : Leaves c node s half
     out = leaves c node s known
 

@@ -15,7 +15,7 @@ use Rattle.records.specs.declared.column.Column.TheVariants.{Resident as of_resi
 use Rattle.records.specs.declared.record.Record.{Record}
 use Rattle.records.specs.Columns.{key_at_lem, word_at}
 use Rattle.cache_core.specs.View.{places, or_empty, value_at, valued, word_in, item_at, cell_at, seen}
-use Rattle.cache_core.specs.Tied.{Tied}
+use Rattle.cache_core.specs.Tied.{TiedWithin}
 use Rattle.cache_core.proofs.Looked.{here}
 use Rattle.cache_core.proofs.Standing.{Orderly}
 use Rattle.cache_core.proofs.Leaving.{items, items_append}
@@ -68,7 +68,7 @@ module _ {K V : Type 0} where
     word_valued column q = ap (option_map mean) (key_valued column rs place v q)
 
     -- no key changes
-    pub valued_tied : (hashed : List ℕ → ℕ) (c : ℕ) (s : Parts ℕ ℕ ℕ) (i j : KeyIndex) → Tied mean hashed c rs s i j → Tied mean hashed c (valued rs place v) s i j
+    pub valued_tied : (hashed : List ℕ → ℕ) (c : ℕ) (s : Parts ℕ ℕ ℕ) (i j : KeyIndex) → TiedWithin mean hashed c rs s i j → TiedWithin mean hashed c (valued rs place v) s i j
     valued_tied hashed c s i j t =
         record {
           sized = (let z = t.sized in let e = valued_length rs place v in omega arith);
@@ -81,7 +81,7 @@ module _ {K V : Type 0} where
               omega arith);
         }
 
-    module _ (d : V) (w : List ℕ) (hashed : List ℕ → ℕ) (c : ℕ) (s : Parts ℕ ℕ ℕ) (i j : KeyIndex) (t : Tied mean hashed c rs s i j) (o : Orderly c s) (within : (q : ℕ) → 0 < occurs q (places s) → q < length rs) (found : Some place ≡ first_by (bears (word_at mean of_resident rs) w) (places s)) where
+    module _ (d : V) (w : List ℕ) (hashed : List ℕ → ℕ) (c : ℕ) (s : Parts ℕ ℕ ℕ) (i j : KeyIndex) (t : TiedWithin mean hashed c rs s i j) (o : Orderly c s) (within : (q : ℕ) → 0 < occurs q (places s) → q < length rs) (found : Some place ≡ first_by (bears (word_at mean of_resident rs) w) (places s)) where
       abbrev old : ℕ → Item V
       old = item_at mean d rs
 

@@ -8,7 +8,7 @@ use Rattle.policy.specs.View.{view}
 use Rattle.records.specs.declared.column.Column.TheVariants.{Remembered}
 use Rattle.records.specs.Columns.{word_at}
 use Rattle.cache_core.specs.View.{places, seen}
-use Rattle.cache_core.specs.Tied.{Tied}
+use Rattle.cache_core.specs.Tied.{TiedWithin}
 use Rattle.cache_core.proofs.Standing.{orderly, node_within}
 use Rattle.cache_core.proofs.Ghosts.{others}
 use Rattle.cache_core.proofs.Forgot.{holds_node_lem, forgets_none, node_there, node_word, node_apart, forgets_node, forgets_tied}
@@ -45,8 +45,8 @@ returns-in-Some g c =
           let named = node_word {K = g.row.K.Denot} {V = g.row.V.Denot} mean rs word hashed cap s i j node t o within found in
           let out = c.unfile.ensures.tied hashed lying (others node s.remembered) word (ties_alike hashed lying s.remembered (node ∷ others node s.remembered) j apart t.remembered) named h in
           let all = forgets_tied {K = g.row.K.Denot} {V = g.row.V.Denot} mean rs word hashed cap s i j node t o within found j' out.1 in (
-            subst (λ (n : ℕ). Tied {K = g.row.K.Denot} {V = g.row.V.Denot} mean hashed n rs (view c.discard.new.self.core) i j') (sym c.discard.ensures.capacity)
-                (subst (λ (t' : Parts ℕ ℕ ℕ). Tied {K = g.row.K.Denot} {V = g.row.V.Denot} mean hashed cap rs t' i j') (sym after) all.0),
+            subst (λ (n : ℕ). TiedWithin {K = g.row.K.Denot} {V = g.row.V.Denot} mean hashed n rs (view c.discard.new.self.core) i j') (sym c.discard.ensures.capacity)
+                (subst (λ (t' : Parts ℕ ℕ ℕ). TiedWithin {K = g.row.K.Denot} {V = g.row.V.Denot} mean hashed cap rs t' i j') (sym after) all.0),
             subst (λ (t' : Parts ℕ ℕ ℕ). how_many (bears lying word) t'.remembered ≡ 0) (sym after) all.1,
           ));
       kept = (refl, refl, c.discard.ensures.capacity, ap places after);

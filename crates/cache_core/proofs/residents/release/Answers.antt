@@ -5,7 +5,8 @@ use Rattle.index.proofs.Joined.{ties_alike}
 use Rattle.records.specs.declared.column.Column.TheVariants.{Resident}
 use Rattle.records.specs.Columns.{word_at}
 use Rattle.cache_core.specs.View.{places, seen}
-use Rattle.cache_core.specs.Tied.{Tied}
+use Rattle.cache_core.specs.Tied.{TiedWithin}
+use Rattle.cache_core.proofs.Exact.{loosened, exact}
 use Rattle.cache_core.proofs.Standing.{orderly, place_within}
 use Rattle.cache_core.proofs.Ghosts.{others}
 use Rattle.cache_core.proofs.Residing.{resides_there, place_there, place_word, place_apart, drops_place, drops_tied}
@@ -25,6 +26,16 @@ returns g c =
     let i' = c.unfile.new.self in
     let after = c.remove.ensures.view in
     let lying = word_at {K = g.row.K.Denot} {V = g.row.V.Denot} mean Resident rs in
+    let within : @T@ =
+        λ word t found h.
+          (let within = place_within x.policy (length rs) t.sized in
+          let o = orderly x.policy in
+          let apart = place_apart {K = g.row.K.Denot} {V = g.row.V.Denot} mean rs word hashed cap s i j place t o within found in
+          let named = place_word {K = g.row.K.Denot} {V = g.row.V.Denot} mean rs word hashed cap s i j place t o within found in
+          let out = c.unfile.ensures.tied hashed lying (others place (places s)) word (ties_alike hashed lying (places s) (place ∷ others place (places s)) i apart t.residents) named h in
+          subst (λ (n : ℕ). TiedWithin {K = g.row.K.Denot} {V = g.row.V.Denot} mean hashed n rs (view c.remove.new.self.core) i' j) (sym c.remove.ensures.capacity)
+          (subst (λ (p : Parts ℕ ℕ ℕ). TiedWithin {K = g.row.K.Denot} {V = g.row.V.Denot} mean hashed cap rs p i' j) (sym after)
+          (drops_tied {K = g.row.K.Denot} {V = g.row.V.Denot} mean rs word hashed cap s i j place t o within found i' out.1))) in
     record {
       answer = λ word t found.
           c.remove.ensures.answer
@@ -32,15 +43,8 @@ returns g c =
       drops = λ d word t found.
           ap (seen {K = g.row.K.Denot} {V = g.row.V.Denot} mean d rs) after
           ∙ drops_place {K = g.row.K.Denot} {V = g.row.V.Denot} mean rs word hashed cap s i j place t (orderly x.policy) (place_within x.policy (length rs) t.sized) found d;
-      tied = λ word t found h.
-          (let within = place_within x.policy (length rs) t.sized in
-          let o = orderly x.policy in
-          let apart = place_apart {K = g.row.K.Denot} {V = g.row.V.Denot} mean rs word hashed cap s i j place t o within found in
-          let named = place_word {K = g.row.K.Denot} {V = g.row.V.Denot} mean rs word hashed cap s i j place t o within found in
-          let out = c.unfile.ensures.tied hashed lying (others place (places s)) word (ties_alike hashed lying (places s) (place ∷ others place (places s)) i apart t.residents) named h in
-          subst (λ (n : ℕ). Tied {K = g.row.K.Denot} {V = g.row.V.Denot} mean hashed n rs (view c.remove.new.self.core) i' j) (sym c.remove.ensures.capacity)
-          (subst (λ (p : Parts ℕ ℕ ℕ). Tied {K = g.row.K.Denot} {V = g.row.V.Denot} mean hashed cap rs p i' j) (sym after)
-          (drops_tied {K = g.row.K.Denot} {V = g.row.V.Denot} mean rs word hashed cap s i j place t o within found i' out.1)));
+      tied = λ word t found h. exact t c.remove.ensures.capacity refl (within word (loosened t) found h);
+      within = within;
       kept = refl;
       capacity = c.remove.ensures.capacity;
     }
