@@ -1,7 +1,6 @@
 -- The steps of an insertion put together.
-use Rattle.std.proofs.Common.{◌≡◌, ℕ, zero, suc, ◌+◌, ◌<◌, ◌≤◌, Bool, true, false, cond, eqb, List, [], ◌∷◌, map, length, Some, None, Option, sym, refl, ap, ◌∙◌, subst, arith, eq-eqb}
+use Rattle.std.proofs.Common.{◌≡◌, ℕ, ◌<◌, ◌≤◌, Bool, cond, eqb, List, length, Some, None, Option, sym, refl, ap, ◌∙◌, subst, arith, eq-eqb}
 use Rattle.machine.specs.declared.report.Part.{Part}
-use Rattle.machine.specs.declared.report.Report.{Report}
 use Rattle.machine.specs.Replacement.{Parts, Vacated, vacated, seated, forgets}
 use Rattle.machine.specs.Machine.{Item, Cell, State, same, has, cell_of, lays, lying, arrival, settled, report_of}
 use Rattle.handles.specs.Seek.{first_by}
@@ -13,14 +12,13 @@ use Rattle.policy.specs.View.{view}
 use Rattle.policy.specs.Insertion.{node_of, Done}
 use Rattle.index.specs.declared.index.KeyIndex.{KeyIndex}
 use Rattle.index.specs.Filed.{bears}
-use Rattle.index.specs.Ties.{occurs}
 use Rattle.index.proofs.Firsts.{counts_one}
 use Rattle.records.specs.declared.column.Column.TheVariants.{Resident, Remembered as of_ghost}
 use Rattle.records.specs.declared.record.Record.{Record}
 use Rattle.records.specs.Columns.{word_at}
 use Rattle.cache_core.specs.declared.inner.Inner.{Inner}
 use Rattle.cache_core.specs.View.{places, value_at, bare, rekeyed, seen, state, ghost_words}
-use Rattle.cache_core.specs.Tied.{TiedWithin, Within, ForgottenWithin, OnlyGhost}
+use Rattle.cache_core.specs.Tied.{TiedWithin, ForgottenWithin, OnlyGhost}
 use Rattle.cache_core.specs.Filing.{LaysSeated, SameButResidents}
 use Rattle.cache_core.specs.Departing.{Departs}
 use Rattle.cache_core.specs.Admitting.{Absent, AdmittedWithin, LaidIn}
@@ -128,7 +126,7 @@ module _ {K V : Type 0} (mean : K → List ℕ) (hashed : List ℕ → ℕ) wher
           resides =
               subst (λ (t : Parts ℕ ℕ ℕ). Some r.place ≡ first_by (bears (word_at mean Resident y.records.now) (mean key)) (places t)) (sym parts_same)
               (admitted_resides mean hashed c known s r.place node rs x₂.residents x₂.remembered key tied done.place after within no_resident no_ghost x₃.records.now y.records.now x₃.residents x₃.remembered y.residents ready (seats h));
-          tied =
+          within =
               subst (λ (n : ℕ). TiedWithin mean hashed n y.records.now (view y.policy.core) y.residents y.remembered) (sym (ap (λ (q : Policy). q.core.capacity) policy_same ∙ sized))
               (subst (λ (t : Parts ℕ ℕ ℕ). TiedWithin mean hashed c y.records.now t y.residents y.remembered) (sym parts_same)
               (subst (λ (j : KeyIndex). TiedWithin mean hashed c y.records.now (seated c v r.place) y.residents j) (sym rest.1)

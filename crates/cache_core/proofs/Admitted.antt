@@ -1,22 +1,21 @@
 -- An insertion through policy, indexes and records is the machine's, and the indexes stay tied.
-use Rattle.std.proofs.Common.{◌≡◌, ℕ, zero, suc, ◌+◌, ◌<◌, ◌≤◌, Bool, true, false, cond, eqb, List, [], ◌∷◌, map, length, is_some, Some, None, Option, sym, refl, ap, ◌∙◌, subst, arith, eq-eqb}
+use Rattle.std.proofs.Common.{◌≡◌, ℕ, ◌<◌, ◌≤◌, Bool, true, false, cond, eqb, List, ◌∷◌, length, is_some, Some, None, Option, sym, refl, ap, ◌∙◌, subst, arith, eq-eqb}
 use Rattle.std.specs.Option.{option_map}
 use Rattle.machine.specs.declared.report.Part.{Part}
 use Rattle.machine.specs.declared.report.Part.TheVariants.{Small, Main}
-use Rattle.machine.specs.declared.report.Report.{Report}
 use Rattle.machine.specs.Replacement.{Parts, Vacated, vacated, seated}
 use Rattle.machine.specs.Machine.{Item, Cell, same, lays, lying, settled, report_of, place_of}
 use Rattle.handle_laws.specs.Runs.{how_many}
 use Rattle.ghosts.specs.declared.noted.Noted.{Noted}
 use Rattle.policy.specs.declared.plan.Inserted.{Inserted}
-use Rattle.policy.specs.Insertion.{place_at, node_of, Told, Done}
+use Rattle.policy.specs.Insertion.{place_at, node_of, Told}
 use Rattle.index.specs.declared.index.KeyIndex.{KeyIndex}
 use Rattle.index.specs.Filed.{is_key, bears}
 use Rattle.index.specs.Ties.{occurs, Ties}
 use Rattle.handles.specs.Seek.{first_by}
 use Rattle.handles.proofs.Meaning.{alike_decides}
 use Rattle.index.proofs.Firsts.{counts_one, first_only, stands_counts}
-use Rattle.index.proofs.Joined.{Alike, alike_length, same_count, ties_laid}
+use Rattle.index.proofs.Joined.{alike_length, same_count, ties_laid}
 use Rattle.records.specs.declared.column.Column.TheVariants.{Resident as of_resident, Remembered as of_ghost}
 use Rattle.records.specs.declared.record.Record.{Record}
 use Rattle.records.specs.Columns.{key_at_lem, word_at, keyed}
@@ -29,10 +28,10 @@ use Rattle.cache_core.specs.Departing.{Departs}
 use Rattle.cache_core.proofs.Looked.{same_bears}
 use Rattle.cache_core.proofs.Settled.{settles}
 use Rattle.cache_core.proofs.Standing.{Orderly, same_occurs}
-use Rattle.cache_core.proofs.Leaving.{Leaves, leaves, from_small}
+use Rattle.cache_core.proofs.Leaving.{leaves, from_small}
 use Rattle.cache_core.proofs.Bare.{bare_keyed}
 use Rattle.cache_core.proofs.Spots.{spotted, lies_at}
-use Rattle.cache_core.proofs.Arrived.{meant, arrived, place_carried, value_keyed, word_keyed, word_laid, ghost_keyed}
+use Rattle.cache_core.proofs.Arrived.{meant, arrived, place_carried, value_keyed, word_laid, ghost_keyed}
 use Rattle.cache_core.proofs.Tying.{places_seated, nobodys, count_left, tied_after}
 use Rattle.cache_core.proofs.Readied.{half, Ready, ready_plain, plain_some, plain_none, ready_noted, node_within, key_there, unheard, short}
 

@@ -1,23 +1,22 @@
 -- A node of Ghost forgotten is a key forgotten, and the indexes stay tied.
-use Rattle.std.proofs.Common.{◌≡◌, ℕ, zero, suc, ◌+◌, ◌<◌, ◌≤◌, Bool, true, false, cond, not, ◌||◌, eqb, ◌⊎◌, List, [], ◌∷◌, ◌++◌, map, length, is_some, Some, None, filter, Option, sym, refl, ap, ◌∙◌, subst, inl, inr, arith, eq-eqb}
+use Rattle.std.proofs.Common.{◌≡◌, ℕ, ◌<◌, true, false, cond, not, ◌||◌, eqb, List, [], ◌∷◌, map, length, Some, filter, Option, sym, refl, ap, inl, inr, arith}
 use Rattle.std.specs.List.{AllByRecursion as All}
 use Rattle.std.proofs.lemmas.Bool.Decides.{eqb_tells}
 use Rattle.links.specs.Rows as rows
-use Rattle.machine.specs.Replacement.{Resident, Parts, forgets}
-use Rattle.machine.specs.Machine.{Item, Cell, State, same, has}
+use Rattle.machine.specs.Replacement.{Parts, forgets}
+use Rattle.machine.specs.Machine.{same, has}
 use Rattle.machine_laws.proofs.Carried.{forgets_carried}
 use Rattle.handles.specs.Seek.{first_by}
 use Rattle.handle_laws.specs.Runs.{how_many}
-use Rattle.handle_laws.proofs.Totals.{first_none}
 use Rattle.index.specs.declared.index.KeyIndex.{KeyIndex}
-use Rattle.index.specs.Filed.{is_key, bears}
+use Rattle.index.specs.Filed.{bears}
 use Rattle.index.specs.Ties.{occurs, Ties}
 use Rattle.index.proofs.Firsts.{counts_one, not_both}
-use Rattle.index.proofs.Joined.{Alike, alike_count, alike_kept, counts_none}
-use Rattle.records.specs.declared.column.Column.TheVariants.{Resident as of_resident, Remembered as of_ghost}
+use Rattle.index.proofs.Joined.{Alike, alike_count, alike_kept}
+use Rattle.records.specs.declared.column.Column.TheVariants.{Remembered as of_ghost}
 use Rattle.records.specs.declared.record.Record.{Record}
 use Rattle.records.specs.Columns.{word_at}
-use Rattle.cache_core.specs.View.{places, word_in, item_at, cell_at, seen}
+use Rattle.cache_core.specs.View.{word_in, item_at, cell_at, seen}
 use Rattle.cache_core.specs.Tied.{TiedWithin}
 use Rattle.cache_core.proofs.Looked.{here}
 use Rattle.cache_core.proofs.Only.{passes, its_word, only}

@@ -1,18 +1,18 @@
 -- A resident named by its place is the one with its key: a use of it, and its leaving.
-use Rattle.std.proofs.Common.{◌≡◌, ℕ, zero, suc, ◌+◌, ◌<◌, ◌≤◌, Bool, true, false, cond, not, ◌||◌, eqb, ◌⊎◌, List, [], ◌∷◌, ◌++◌, map, length, Some, None, filter, Option, sym, refl, ap, ◌∙◌, subst, inl, inr, arith, eq-eqb}
+use Rattle.std.proofs.Common.{◌≡◌, ℕ, zero, suc, ◌+◌, ◌<◌, Bool, true, false, cond, not, ◌||◌, eqb, List, [], ◌∷◌, ◌++◌, map, length, Some, filter, Option, sym, refl, ap, ◌∙◌, subst, inl, inr, arith, eq-eqb}
 use Rattle.std.specs.List.{AllByRecursion as All}
 use Rattle.std.proofs.lemmas.Bool.Decides.{eqb_tells}
 use Rattle.std.proofs.lemmas.List.{map-append}
 use Rattle.machine.specs.Replacement.{Resident, Parts, hit, uses, drops}
-use Rattle.machine.specs.Machine.{Item, Cell, State, same, is_at, cell_of}
+use Rattle.machine.specs.Machine.{same, is_at, cell_of}
 use Rattle.machine_laws.proofs.Carried.{uses_carried, drops_carried, map_kept}
 use Rattle.queues.specs.Held as queues
 use Rattle.handles.specs.Seek.{first_by}
 use Rattle.handle_laws.specs.Runs.{how_many}
 use Rattle.index.specs.declared.index.KeyIndex.{KeyIndex}
-use Rattle.index.specs.Filed.{is_key, bears}
+use Rattle.index.specs.Filed.{bears}
 use Rattle.index.specs.Ties.{occurs, Ties}
-use Rattle.index.proofs.Joined.{Alike, alike_count, alike_kept, counts_none, ties_alike}
+use Rattle.index.proofs.Joined.{Alike, alike_count, alike_kept, counts_none}
 use Rattle.records.specs.declared.column.Column.TheVariants.{Resident as of_resident, Remembered as of_ghost}
 use Rattle.records.specs.declared.record.Record.{Record}
 use Rattle.records.specs.Columns.{word_at}

@@ -1,19 +1,18 @@
 -- The indexes stay tied over an insertion.
-use Rattle.std.proofs.Common.{◌≡◌, ℕ, zero, suc, ◌+◌, ◌-◌, ◌<◌, ◌≤◌, Bool, true, false, cond, not, eqb, ◌⊎◌, List, [], ◌∷◌, ◌++◌, map, length, take, drop, is_some, Some, None, filter, Option, sym, refl, ap, ◌∙◌, subst, inl, inr, arith, eq-eqb}
+use Rattle.std.proofs.Common.{◌≡◌, ℕ, zero, suc, ◌+◌, ◌<◌, ◌≤◌, Bool, true, false, cond, not, eqb, List, [], ◌∷◌, ◌++◌, map, length, is_some, Some, filter, sym, refl, ap, ◌∙◌, subst, inl, inr, arith, eq-eqb}
 use Rattle.std.proofs.lemmas.Bool.Decides.{eqb_tells}
 use Rattle.machine.specs.declared.report.Part.{Part}
 use Rattle.machine.specs.declared.report.Part.TheVariants.{Small, Main}
-use Rattle.machine.specs.Limits.{ghost_limit, window}
-use Rattle.machine.specs.Replacement.{Mark, Resident, Parts, Vacated, marked, plain, young, aged, seated_in, seated}
+use Rattle.machine.specs.Limits.{window}
+use Rattle.machine.specs.Replacement.{Mark, Resident, Parts, Vacated, marked, plain, aged, seated_in, seated}
 use Rattle.handles.proofs.Meaning.{alike_decides}
 use Rattle.handle_laws.specs.Runs.{how_many}
-use Rattle.handle_laws.proofs.Counting.{how_many_append}
 use Rattle.policy.specs.Insertion.{place_at}
 use Rattle.index.specs.declared.index.KeyIndex.{KeyIndex}
 use Rattle.index.specs.Filed.{is_key, bears}
 use Rattle.index.specs.Ties.{occurs, Ties}
-use Rattle.index.proofs.Firsts.{counts_one, not_both}
-use Rattle.index.proofs.Joined.{Alike, alike_count, alike_length, alike_kept, counts_none, same_count, ties_alike, ties_laid}
+use Rattle.index.proofs.Firsts.{counts_one}
+use Rattle.index.proofs.Joined.{Alike, alike_count, alike_length, alike_kept, counts_none, same_count, ties_alike}
 use Rattle.records.specs.declared.column.Column.TheVariants.{Resident as of_resident, Remembered as of_ghost}
 use Rattle.records.specs.declared.record.Record.{Record}
 use Rattle.records.specs.Columns.{word_at}

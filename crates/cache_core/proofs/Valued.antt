@@ -1,14 +1,13 @@
 -- A value laid in a place changes the resident of the place alone.
-use Rattle.std.proofs.Common.{◌≡◌, ℕ, zero, suc, ◌+◌, ◌<◌, ◌≤◌, Bool, true, false, cond, eqb, ◌⊎◌, List, [], ◌∷◌, ◌++◌, map, length, get_or, set, Some, None, Option, sym, refl, ap, ◌∙◌, subst, inl, inr, le_of_suc-le-suc, arith, eq-eqb}
+use Rattle.std.proofs.Common.{◌≡◌, ℕ, zero, suc, ◌<◌, ◌≤◌, Bool, true, false, cond, eqb, ◌⊎◌, List, [], ◌∷◌, map, length, get_or, set, Some, sym, refl, ap, ◌∙◌, inl, inr, le_of_suc-le-suc, arith}
 use Rattle.std.specs.Option.{option_map}
 use Rattle.std.proofs.lemmas.Bool.Decides.{eqb_tells}
 use Rattle.machine.specs.Replacement.{Resident, Parts}
-use Rattle.machine.specs.Machine.{Item, Cell, State, same, is_at, relaid, relaid_if, lays}
+use Rattle.machine.specs.Machine.{Item, same, is_at, relaid, relaid_if, lays}
 use Rattle.handles.specs.Seek.{first_by}
-use Rattle.handle_laws.specs.Runs.{how_many}
 use Rattle.index.specs.declared.index.KeyIndex.{KeyIndex}
 use Rattle.index.specs.Filed.{is_key, bears}
-use Rattle.index.specs.Ties.{occurs, Ties}
+use Rattle.index.specs.Ties.{occurs}
 use Rattle.index.proofs.Joined.{same_count, ties_laid}
 use Rattle.records.specs.declared.column.Column.{Column}
 use Rattle.records.specs.declared.column.Column.TheVariants.{Resident as of_resident, Remembered as of_ghost}
@@ -38,7 +37,7 @@ module _ {K V : Type 0} where
   valued_set (r ∷ rs) zero v d h = refl
   valued_set (r ∷ rs) (suc p) v d h = ap (λ (l : List (Record K V)). r ∷ l) (valued_set rs p v d (le_of_suc-le-suc h))
 
-  valued_length : (rs : List (Record K V)) (p : ℕ) (v : V) → length (valued rs p v) ≡ length rs
+  pub valued_length : (rs : List (Record K V)) (p : ℕ) (v : V) → length (valued rs p v) ≡ length rs
   valued_length [] p v = refl
   valued_length (r ∷ rs) zero v = refl
   valued_length (r ∷ rs) (suc p) v = ap suc (valued_length rs p v)

@@ -1,4 +1,4 @@
-use Rattle.std.proofs.Common.{◌≡◌, ℕ, eqb, length, sym, refl, ap, ◌∙◌, subst}
+use Rattle.std.proofs.Common.{ℕ, eqb, length, sym, refl, ap, ◌∙◌, subst}
 use Rattle.machine.specs.Replacement.{Parts}
 use Rattle.policy.specs.View.{view}
 use Rattle.cache_core.specs.View.{places, seen}
@@ -18,11 +18,11 @@ returns g c =
     let cap = x.policy.core.capacity in
     let place = c.args.place in
     let after = c.hit.ensures.view in
-    let within : @T@ =
-        λ t.
-          subst (λ (n : ℕ). TiedWithin {K = g.row.K.Denot} {V = g.row.V.Denot} mean hashed n rs (view c.hit.new.self.core) x.residents x.remembered) (sym c.hit.ensures.capacity)
-          (subst (λ (p : Parts ℕ ℕ ℕ). TiedWithin {K = g.row.K.Denot} {V = g.row.V.Denot} mean hashed cap rs p x.residents x.remembered) (sym after)
-          (uses_tied {K = g.row.K.Denot} {V = g.row.V.Denot} mean hashed cap rs s x.residents x.remembered (λ q. eqb q place) t)) in
+    let within : TiedWithin {K = g.row.K.Denot} {V = g.row.V.Denot} mean hashed cap rs s x.residents x.remembered → TiedWithin {K = g.row.K.Denot} {V = g.row.V.Denot} mean hashed c.hit.new.self.core.capacity rs (view c.hit.new.self.core) x.residents x.remembered =
+    λ t.
+    subst (λ (n : ℕ). TiedWithin {K = g.row.K.Denot} {V = g.row.V.Denot} mean hashed n rs (view c.hit.new.self.core) x.residents x.remembered) (sym c.hit.ensures.capacity)
+    (subst (λ (p : Parts ℕ ℕ ℕ). TiedWithin {K = g.row.K.Denot} {V = g.row.V.Denot} mean hashed cap rs p x.residents x.remembered) (sym after)
+    (uses_tied {K = g.row.K.Denot} {V = g.row.V.Denot} mean hashed cap rs s x.residents x.remembered (λ q. eqb q place) t)) in
     record {
       uses = λ d word t found.
           ap (seen {K = g.row.K.Denot} {V = g.row.V.Denot} mean d rs) after
