@@ -7,7 +7,7 @@ use Rattle.machine.specs.Machine.{Word, State, step}
 use Rattle.machine.specs.Run.{meant}
 use Rattle.cache_core.specs.declared.inner.Inner.{Inner}
 use Rattle.cache_core.specs.View.{state, bare}
-use Rattle.cache_core.specs.Tied.{TiedInner}
+use Rattle.cache_core.specs.Tied.{Within}
 use Rattle.cache_calls.specs.Calls.{Does}
 use Rattle.cache_calls.specs.Retain.{rising}
 use Rattle.cache.specs.Records.{laid_by}
@@ -59,21 +59,21 @@ module _ {K V R : Type 0} (mean : K → Word) (hashed : Word → ℕ) (keeps : R
     pub leads : state_from mean keeps c loader (state mean d y) (drop i (take n calls)) ≡ state_from mean keeps c loader (state mean d x) (take n calls)
     pub tells : take i answers ++ answers_from mean keeps c loader (state mean d y) (drop i (take n calls)) ≡ answers_from mean keeps c loader (state mean d x) (take n calls)
     pub lays : laid_from mean keeps c loader (state mean d y) (drop i (take n calls)) (bare y.records.now) ≡ laid_from mean keeps c loader (state mean d x) (take n calls) (bare x.records.now)
-    pub right : TiedInner mean hashed y
+    pub right : Within mean hashed y
 
   pub record Midway (i : ℕ) (answers : List (Answer V)) (given : Word → Result V Fault) (y : Inner K V) : Type 0 where
     pub long : length answers ≡ length before
     pub meaning : given ≡ loader
     pub capacity : y.policy.core.capacity ≡ c
     pub rest : drop i answers ≡ drop i before
-    pub still : TiedInner mean hashed x → (d : V) → Still i answers y d
+    pub still : Within mean hashed x → (d : V) → Still i answers y d
 
   pub start : Midway 0 before loader x
   start = record { long = refl; meaning = refl; capacity = refl; rest = refl; still = λ t d. record { leads = refl; tells = refl; lays = refl; right = t } }
 
   module _ (i : ℕ) (low : i < n) (answers : List (Answer V)) (given given' : Word → Result V Fault) (y y' : Inner K V) (call : Call K V R) (a : Answer V) (is : call ≡ get_or calls i call) (m : Midway i answers given y)
       (does : Does mean hashed (λ s. step y.policy.core.capacity given rising s (meant mean keeps call)) y a y')
-      (records : TiedInner mean hashed y → (d : V) → bare y'.records.now ≡ laid_by mean keeps y.policy.core.capacity given call (state mean d y) (bare y.records.now))
+      (records : Within mean hashed y → (d : V) → bare y'.records.now ≡ laid_by mean keeps y.policy.core.capacity given call (state mean d y) (bare y.records.now))
       (meaning : given' ≡ given) (capacity : y'.policy.core.capacity ≡ y.policy.core.capacity) where
     few : i < length answers
     few = let z = m.long in omega arith
@@ -82,12 +82,12 @@ module _ {K V R : Type 0} (mean : K → Word) (hashed : Word → ℕ) (keeps : R
     left = left_cons n i calls call low (omega arith) is
 
     -- the step as the machine of the start takes it
-    took : (t : TiedInner mean hashed y) (d : V) → stepped mean keeps c loader (state mean d y) call ≡ (state mean d y', a)
+    took : (t : Within mean hashed y) (d : V) → stepped mean keeps c loader (state mean d y) call ≡ (state mean d y', a)
     took t d =
         ap (λ (k : ℕ). stepped mean keeps k loader (state mean d y) call) (sym m.capacity)
         ∙ (ap (λ (l : Word → Result V Fault). stepped mean keeps y.policy.core.capacity l (state mean d y) call) (sym m.meaning) ∙ (does t).0 d)
 
-    next : (t : TiedInner mean hashed x) (d : V) → Still (suc i) (set answers i a) y' d
+    next : (t : Within mean hashed x) (d : V) → Still (suc i) (set answers i a) y' d
     next t d =
         let s = m.still t d in
         let rest = drop (suc i) (take n calls) in

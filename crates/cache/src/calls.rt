@@ -6,7 +6,7 @@ ghost use Rattle.machine.specs.Measure.{measured, opened_with};
 ghost use Rattle.machine.specs.Replacement.{nothing};
 ghost use Rattle.machine.specs.Machine.{contains as is_resident, peek as found, get as used, get_at as used_at, put as placed, fetch as fetched, claim as claimed, write_at_lem as written, remove as removed, look};
 ghost use Rattle.cache_core.specs.View.{state, bare};
-ghost use Rattle.cache_core.specs.Tied.{TiedInner};
+ghost use Rattle.cache_core.specs.Tied.{Within};
 ghost use Rattle.cache_calls.specs.Calls.{Tells, Does, put_lays, fetch_lays, claim_lays, write_lays, asks};
 ghost use Rattle.cache_calls.specs.Retain.{retained, asked_each};
 
@@ -15,7 +15,7 @@ use cache_core::clear as clear_in;
 use keys::kind::HashedKey;
 use loaders::loader::Loader;
 use machine::call::{Claimed, Fetched, Placed};
-use machine::keep::KeepRule;
+use cache_calls::AskedKeepRule;
 use machine::refusal::Refusal;
 use records::Record;
 
@@ -31,7 +31,7 @@ impl<'a, K: HashedKey, V: Copy> Cache<'a, K, V> {
     pub fn open(records: &'a mut [Record<K, V>]) -> Cache<'a, K, V>
         ensures capacity { result.inner.policy.core.capacity ≡ opened_with (length records.old) }
         ensures state { (d : V) → state K.Key.meaning d result.inner ≡ nothing }
-        ensures right { TiedInner K.Key.meaning K.HashedKey.hashed result.inner }
+        ensures right { Within K.Key.meaning K.HashedKey.hashed result.inner }
         ensures records { result.inner.records.now ≡ records.old }
     {
         Cache {
@@ -82,7 +82,7 @@ impl<'a, K: HashedKey, V: Copy> Cache<'a, K, V> {
     /// came in. At capacity 0 it is refused.
     pub fn put(&mut self, key: K, value: V) -> Result<Placed<V>, Refusal>
         ensures does { Does K.Key.meaning K.HashedKey.hashed (λ s. placed self.old.inner.policy.core.capacity s (K.Key.meaning key) value) self.old.inner result self.new.inner }
-        ensures records { TiedInner K.Key.meaning K.HashedKey.hashed self.old.inner → (d : V) → bare self.new.inner.records.now ≡ put_lays result (look (K.Key.meaning key) (state K.Key.meaning d self.old.inner)) key value (bare self.old.inner.records.now) }
+        ensures records { Within K.Key.meaning K.HashedKey.hashed self.old.inner → (d : V) → bare self.new.inner.records.now ≡ put_lays result (look (K.Key.meaning key) (state K.Key.meaning d self.old.inner)) key value (bare self.old.inner.records.now) }
         ensures capacity { self.new.inner.policy.core.capacity ≡ self.old.inner.policy.core.capacity }
     {
         cache_calls::put(&mut self.inner, key, value)
@@ -93,7 +93,7 @@ impl<'a, K: HashedKey, V: Copy> Cache<'a, K, V> {
     /// is refused.
     pub fn fetch<L: Loader<K, V>>(&mut self, loader: &mut L, key: K) -> Result<Fetched<V>, Refusal>
         ensures does { Does K.Key.meaning K.HashedKey.hashed (λ s. fetched self.old.inner.policy.core.capacity (L.Loader.given loader.old) s (K.Key.meaning key)) self.old.inner result self.new.inner }
-        ensures records { TiedInner K.Key.meaning K.HashedKey.hashed self.old.inner → bare self.new.inner.records.now ≡ fetch_lays result key (bare self.old.inner.records.now) }
+        ensures records { Within K.Key.meaning K.HashedKey.hashed self.old.inner → bare self.new.inner.records.now ≡ fetch_lays result key (bare self.old.inner.records.now) }
         ensures meaning { L.Loader.given loader.new ≡ L.Loader.given loader.old }
         ensures unasked { asks result ≡ false → loader.new ≡ loader.old }
         ensures capacity { self.new.inner.policy.core.capacity ≡ self.old.inner.policy.core.capacity }
@@ -106,7 +106,7 @@ impl<'a, K: HashedKey, V: Copy> Cache<'a, K, V> {
     /// the call is refused.
     pub fn claim(&mut self, key: K, given: V) -> Result<Claimed<V>, Refusal>
         ensures does { Does K.Key.meaning K.HashedKey.hashed (λ s. claimed self.old.inner.policy.core.capacity s (K.Key.meaning key) given) self.old.inner result self.new.inner }
-        ensures records { TiedInner K.Key.meaning K.HashedKey.hashed self.old.inner → bare self.new.inner.records.now ≡ claim_lays result key (bare self.old.inner.records.now) }
+        ensures records { Within K.Key.meaning K.HashedKey.hashed self.old.inner → bare self.new.inner.records.now ≡ claim_lays result key (bare self.old.inner.records.now) }
         ensures capacity { self.new.inner.policy.core.capacity ≡ self.old.inner.policy.core.capacity }
     {
         cache_calls::claim(&mut self.inner, key, given)
@@ -132,10 +132,10 @@ impl<'a, K: HashedKey, V: Copy> Cache<'a, K, V> {
 
     /// Drops the residents that a rule refuses, and their places go onto the free stack in rising order. The rule is
     /// asked once for each resident, by rising place.
-    pub fn retain<R: KeepRule<K, V>>(&mut self, rule: &mut R)
-        ensures does { Does K.Key.meaning K.HashedKey.hashed (retained (R.KeepRule.keeps rule.old)) self.old.inner result self.new.inner }
-        ensures asked { TiedInner K.Key.meaning K.HashedKey.hashed self.old.inner → (d : V) → rule.new ≡ asked_each R.KeepRule.after rule.old (state K.Key.meaning d self.old.inner) }
-        ensures meaning { R.KeepRule.keeps rule.new ≡ R.KeepRule.keeps rule.old }
+    pub fn retain<R: AskedKeepRule<K, V>>(&mut self, rule: &mut R)
+        ensures does { Does K.Key.meaning K.HashedKey.hashed (retained (R.AskedKeepRule.keeps rule.old)) self.old.inner result self.new.inner }
+        ensures asked { Within K.Key.meaning K.HashedKey.hashed self.old.inner → (d : V) → rule.new ≡ asked_each R.AskedKeepRule.after rule.old (state K.Key.meaning d self.old.inner) }
+        ensures meaning { R.AskedKeepRule.keeps rule.new ≡ R.AskedKeepRule.keeps rule.old }
         ensures records { self.new.inner.records.now ≡ self.old.inner.records.now }
         ensures capacity { self.new.inner.policy.core.capacity ≡ self.old.inner.policy.core.capacity }
     {

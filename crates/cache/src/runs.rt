@@ -2,7 +2,7 @@
 
 ghost use Rattle.std.specs.Prelude.{◌≡◌, ◌<◌, length, slice_set};
 ghost use Rattle.cache_core.specs.View.{state};
-ghost use Rattle.cache_core.specs.Tied.{TiedInner};
+ghost use Rattle.cache_core.specs.Tied.{Within};
 ghost use Rattle.cache.specs.Run.{Performed, Plays};
 
 use crate::cache::Cache;
@@ -12,7 +12,7 @@ use cache_core::Inner;
 use keys::kind::HashedKey;
 use loaders::loader::Loader;
 use machine::call::{Answer, Call};
-use machine::keep::KeepRule;
+use cache_calls::AskedKeepRule;
 use machine::refusal::Refusal;
 use records::Record;
 
@@ -26,13 +26,13 @@ fn lay_answer<V: Copy>(answers: &mut [Answer<V>], index: usize, answer: Answer<V
 
 /// Makes calls one after the other and lays the answers in their order, as far as there is room for them. Says how
 /// many calls were made.
-pub(crate) fn perform_all_in<K: HashedKey, V: Copy, L: Loader<K, V>, R: KeepRule<K, V> + Copy>(
+pub(crate) fn perform_all_in<K: HashedKey, V: Copy, L: Loader<K, V>, R: AskedKeepRule<K, V> + Copy>(
     inner: &mut Inner<'_, K, V>,
     loader: &mut L,
     calls: &[Call<K, V, R>],
     answers: &mut [Answer<V>],
 ) -> usize
-    ensures performed { Performed K.Key.meaning K.HashedKey.hashed R.KeepRule.keeps (L.Loader.given loader.old) inner.old calls.now answers.old answers.new result inner.new }
+    ensures performed { Performed K.Key.meaning K.HashedKey.hashed R.AskedKeepRule.keeps (L.Loader.given loader.old) inner.old calls.now answers.old answers.new result inner.new }
     ensures meaning { L.Loader.given loader.new ≡ L.Loader.given loader.old }
     ensures capacity { inner.new.policy.core.capacity ≡ inner.old.policy.core.capacity }
 {
@@ -46,13 +46,13 @@ pub(crate) fn perform_all_in<K: HashedKey, V: Copy, L: Loader<K, V>, R: KeepRule
 
 /// Plays calls on a cache opened new over these records, with one loader behind every fetch, and lays the answers in
 /// their order, as far as there is room for them. Says how many calls were played.
-pub fn play<K: HashedKey, V: Copy, L: Loader<K, V>, R: KeepRule<K, V> + Copy>(
+pub fn play<K: HashedKey, V: Copy, L: Loader<K, V>, R: AskedKeepRule<K, V> + Copy>(
     records: &mut [Record<K, V>],
     loader: &mut L,
     calls: &[Call<K, V, R>],
     answers: &mut [Answer<V>],
 ) -> Result<usize, Refusal>
-    ensures played { Plays K.Key.meaning R.KeepRule.keeps (length records.old) (L.Loader.given loader.old) calls.now answers.old answers.new result }
+    ensures played { Plays K.Key.meaning R.AskedKeepRule.keeps (length records.old) (L.Loader.given loader.old) calls.now answers.old answers.new result }
     ensures meaning { L.Loader.given loader.new ≡ L.Loader.given loader.old }
 {
     measure(records)?;

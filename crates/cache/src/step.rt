@@ -4,7 +4,7 @@ ghost use Rattle.std.specs.Prelude.{◌≡◌};
 ghost use Rattle.machine.specs.Machine.{step};
 ghost use Rattle.machine.specs.Run.{meant};
 ghost use Rattle.cache_core.specs.View.{bare, state};
-ghost use Rattle.cache_core.specs.Tied.{TiedInner};
+ghost use Rattle.cache_core.specs.Tied.{Within};
 ghost use Rattle.cache_calls.specs.Calls.{Does};
 ghost use Rattle.cache_calls.specs.Retain.{rising};
 ghost use Rattle.cache.specs.Records.{laid_by};
@@ -14,16 +14,16 @@ use cache_core::{Inner, clear};
 use keys::kind::HashedKey;
 use loaders::loader::Loader;
 use machine::call::{Answer, Call};
-use machine::keep::KeepRule;
+use cache_calls::AskedKeepRule;
 
 /// Makes a call; the rule of a retain is asked as a copy.
-pub(crate) fn perform_in<K: HashedKey, V: Copy, L: Loader<K, V>, R: KeepRule<K, V> + Copy>(
+pub(crate) fn perform_in<K: HashedKey, V: Copy, L: Loader<K, V>, R: AskedKeepRule<K, V> + Copy>(
     inner: &mut Inner<'_, K, V>,
     loader: &mut L,
     call: &Call<K, V, R>,
 ) -> Answer<V>
-    ensures does { Does K.Key.meaning K.HashedKey.hashed (λ s. step inner.old.policy.core.capacity (L.Loader.given loader.old) rising s (meant K.Key.meaning R.KeepRule.keeps call.now)) inner.old result inner.new }
-    ensures records { TiedInner K.Key.meaning K.HashedKey.hashed inner.old → (d : V) → bare inner.new.records.now ≡ laid_by K.Key.meaning R.KeepRule.keeps inner.old.policy.core.capacity (L.Loader.given loader.old) call.now (state K.Key.meaning d inner.old) (bare inner.old.records.now) }
+    ensures does { Does K.Key.meaning K.HashedKey.hashed (λ s. step inner.old.policy.core.capacity (L.Loader.given loader.old) rising s (meant K.Key.meaning R.AskedKeepRule.keeps call.now)) inner.old result inner.new }
+    ensures records { Within K.Key.meaning K.HashedKey.hashed inner.old → (d : V) → bare inner.new.records.now ≡ laid_by K.Key.meaning R.AskedKeepRule.keeps inner.old.policy.core.capacity (L.Loader.given loader.old) call.now (state K.Key.meaning d inner.old) (bare inner.old.records.now) }
     ensures meaning { L.Loader.given loader.new ≡ L.Loader.given loader.old }
     ensures capacity { inner.new.policy.core.capacity ≡ inner.old.policy.core.capacity }
 {

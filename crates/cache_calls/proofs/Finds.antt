@@ -17,7 +17,7 @@ use Rattle.records.specs.declared.column.Column.TheVariants.{Resident as of_resi
 use Rattle.records.specs.declared.record.Record.{Record}
 use Rattle.records.specs.Columns.{word_at}
 use Rattle.cache_core.specs.View.{places, item_at, seen}
-use Rattle.cache_core.specs.Tied.{Tied}
+use Rattle.cache_core.specs.Tied.{TiedWithin}
 use Rattle.cache_core.proofs.Looked.{look_first}
 use Rattle.cache_core.proofs.Standing.{Orderly}
 use Rattle.cache_core.proofs.Leaving.{items, items_append}
@@ -87,7 +87,7 @@ none_count f (x ∷ xs) e =
 in_its_place : {V : Type 0} (p : ℕ) (i : Item V) (b : Bool) → eqb p i.place ≡ b → in_place p (Some i) ≡ cond b (Some i) None
 in_its_place p i b e = ap (λ (z : Bool). cond z (Some i) None) e
 
-module _ {K V : Type 0} (mean : K → List ℕ) (hashed : List ℕ → ℕ) (rs : List (Record K V)) (w : List ℕ) (c : ℕ) (s : Parts ℕ ℕ ℕ) (i j : KeyIndex) (t : Tied mean hashed c rs s i j) (o : Orderly c s) (within : (q : ℕ) → 0 < occurs q (places s) → q < length rs) where
+module _ {K V : Type 0} (mean : K → List ℕ) (hashed : List ℕ → ℕ) (rs : List (Record K V)) (w : List ℕ) (c : ℕ) (s : Parts ℕ ℕ ℕ) (i j : KeyIndex) (t : TiedWithin mean hashed c rs s i j) (o : Orderly c s) (within : (q : ℕ) → 0 < occurs q (places s) → q < length rs) where
   abbrev lying : ℕ → Option (List ℕ)
   lying = word_at mean of_resident rs
 

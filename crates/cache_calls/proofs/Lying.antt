@@ -63,15 +63,3 @@ module _ {K V : Type 0} where
   value_past d [] p h = refl
   value_past d (r ∷ rs) zero h = absurd (omega arith)
   value_past d (r ∷ rs) (suc p) h = value_past d rs p (le_of_suc-le-suc h)
-
-  bare_length : (rs : List (Record K V)) → length (bare rs) ≡ length rs
-  bare_length [] = refl
-  bare_length (r ∷ rs) = ap suc (bare_length rs)
-
-  rekeyed_length : (p : ℕ) (k : K) (rs : List (K × V)) → length (rekeyed p k rs) ≡ length rs
-  rekeyed_length p k [] = refl
-  rekeyed_length zero k (r ∷ rs) = refl
-  rekeyed_length (suc p) k (r ∷ rs) = ap suc (rekeyed_length p k rs)
-
-  pub long_kept : (rs qs : List (Record K V)) (p : ℕ) (k : K) → bare qs ≡ rekeyed p k (bare rs) → length qs ≡ length rs
-  long_kept rs qs p k e = sym (bare_length qs) ∙ (ap length e ∙ (rekeyed_length p k (bare rs) ∙ bare_length rs))

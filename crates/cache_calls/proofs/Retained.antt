@@ -19,7 +19,7 @@ use Rattle.records.specs.declared.record.Record.{Record}
 use Rattle.records.specs.Columns.{word_at}
 use Rattle.cache_core.specs.declared.inner.Inner.{Inner}
 use Rattle.cache_core.specs.View.{places, value_at, word_in, item_at, cell_at, seen}
-use Rattle.cache_core.specs.Tied.{Tied, TiedInner}
+use Rattle.cache_core.specs.Tied.{TiedWithin, Within}
 use Rattle.cache_core.proofs.Standing.{orderly, place_within}
 use Rattle.cache_core.proofs.Leaving.{items, items_append}
 use Rattle.cache_core.proofs.Residing.{all_items, kept_both, resides_there}
@@ -82,7 +82,7 @@ places_dropped at s =
     ap items (sym (kept_both (λ r. not (at r.item)) s.small s.main))
     ∙ map_kept (λ r. r.item) (λ r. not (at r.item)) (λ q. not (at q)) (s.small ++ s.main) (all_same (λ r. not (at r.item)) (s.small ++ s.main))
 
-module _ {K V R : Type 0} (mean : K → List ℕ) (hashed : List ℕ → ℕ) (keeps : R → List ℕ → V → Bool) (after : R → List ℕ → V → R) (x : Inner K V) (rule₀ : R) (t : TiedInner mean hashed x) where
+module _ {K V R : Type 0} (mean : K → List ℕ) (hashed : List ℕ → ℕ) (keeps : R → List ℕ → V → Bool) (after : R → List ℕ → V → R) (x : Inner K V) (rule₀ : R) (t : Within mean hashed x) where
   abbrev s : Parts ℕ ℕ ℕ
   s = view x.policy.core
 
@@ -112,7 +112,7 @@ module _ {K V R : Type 0} (mean : K → List ℕ) (hashed : List ℕ → ℕ) (k
         (all_items (λ q. not (keeps rule₀ (word_in mean of_resident rs q) (value_at d rs q)) ≡ flagged flags q) s.small (λ q some. flag_is d q (let a = items_append q s.small s.main in omega arith)))
         (all_items (λ q. not (keeps rule₀ (word_in mean of_resident rs q) (value_at d rs q)) ≡ flagged flags q) s.main (λ q some. flag_is d q (let a = items_append q s.small s.main in omega arith))))
 
-    pub retained_tied : Tied mean hashed x.policy.core.capacity rs (drops (highest_first (λ q. q)) (λ q. q) (flagged flags) s) y.residents x.remembered
+    pub retained_tied : TiedWithin mean hashed x.policy.core.capacity rs (drops (highest_first (λ q. q)) (λ q. q) (flagged flags) s) y.residents x.remembered
     retained_tied =
         record {
           sized = t.sized;

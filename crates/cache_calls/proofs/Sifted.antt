@@ -17,7 +17,7 @@ use Rattle.records.specs.declared.record.Record.{Record}
 use Rattle.records.specs.Columns.{word_at}
 use Rattle.cache_core.specs.declared.inner.Inner.{Inner}
 use Rattle.cache_core.specs.View.{places}
-use Rattle.cache_core.specs.Tied.{TiedInner}
+use Rattle.cache_core.specs.Tied.{Within}
 use Rattle.cache_core.specs.Filing.{Unseats, OnlyResidents}
 use Rattle.cache_core.proofs.Standing.{orderly, place_within}
 use Rattle.cache_calls.specs.Retain.{refused, asked_of, dropped, asked_at, Sifts}
@@ -119,7 +119,7 @@ module _ {K V R : Type 0} (mean : K → List ℕ) (hashed : List ℕ → ℕ) (k
     pub kept : OnlyResidents x y
     pub asked : rule ≡ asked_to n
     pub meaning : keeps rule ≡ keeps rule₀
-    pub filed : TiedInner mean hashed x → Ties hashed lying (filter (λ p. not (goes n p)) (places s)) y.residents
+    pub filed : Within mean hashed x → Ties hashed lying (filter (λ p. not (goes n p)) (places s)) y.residents
 
   goes_self : (n : ℕ) → goes (suc n) n ≡ dropped mean (keeps rule₀) x n
   goes_self n = ap (λ (b : Bool). b && dropped mean (keeps rule₀) x n) (below_self n)
@@ -203,7 +203,7 @@ module _ {K V R : Type 0} (mean : K → List ℕ) (hashed : List ℕ → ℕ) (k
     stayed : dropped mean (keeps rule₀) x n ≡ false → (p : ℕ) → goes n p ≡ goes (suc n) p
     stayed e p = elim (cases_eq p n) [ inl is ↦ goes_not_yet n p (omega arith) ∙ (sym e ∙ (sym (goes_self n) ∙ ap (goes (suc n)) (sym is))) | inr ne ↦ sym (goes_other n p ne) ]
 
-    filed_turn : (b : Bool) → dropped mean (keeps rule₀) x n ≡ b → TiedInner mean hashed x → Ties hashed lying (filter (λ p. not (goes (suc n) p)) (places s)) y'.residents
+    filed_turn : (b : Bool) → dropped mean (keeps rule₀) x n ≡ b → Within mean hashed x → Ties hashed lying (filter (λ p. not (goes (suc n) p)) (places s)) y'.residents
     filed_turn true e t =
         let loses : (ps : List ℕ) → n < length rs → Ties hashed lying (n ∷ ps) y.residents → Ties hashed lying ps y'.residents =
         subst (λ (l : List (Record K V)). (ps : List ℕ) → n < length l → Ties hashed (word_at mean of_resident l) (n ∷ ps) y.residents → Ties hashed (word_at mean of_resident l) ps y'.residents) m.kept.0

@@ -11,16 +11,16 @@ use Rattle.machine.specs.declared.call.Claimed.TheVariants as claimed
 use Rattle.machine.specs.Machine.{Item, State}
 use Rattle.cache_core.specs.declared.inner.Inner.{Inner}
 use Rattle.cache_core.specs.View.{state, rekeyed, revalued}
-use Rattle.cache_core.specs.Tied.{TiedInner}
+use Rattle.cache_core.specs.Tied.{Within}
 
 module _ {K V : Type 0} (mean : K → List ℕ) (hashed : List ℕ → ℕ) where
   -- what a call that changes nothing answers
   abbrev pub Tells : {A : Type 0} → (State V → A) → Inner K V → A → Type 0
-  Tells says x a = TiedInner mean hashed x → (d : V) → a ≡ says (state mean d x)
+  Tells says x a = Within mean hashed x → (d : V) → a ≡ says (state mean d x)
 
   -- what a call answers and leaves: the indexes are right afterwards too
   abbrev pub Does : {A : Type 0} → (State V → State V × A) → Inner K V → A → Inner K V → Type 0
-  Does step x a y = TiedInner mean hashed x → ((d : V) → step (state mean d x) ≡ (state mean d y, a)) × TiedInner mean hashed y
+  Does step x a y = Within mean hashed x → ((d : V) → step (state mean d x) ≡ (state mean d y, a)) × Within mean hashed y
 
 -- ## What a call lays in the records, the keys that Ghost remembers aside
 

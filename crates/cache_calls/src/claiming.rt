@@ -1,7 +1,7 @@
 ghost use Rattle.std.specs.Prelude.{◌≡◌};
 ghost use Rattle.machine.specs.Machine.{claim as claimed};
 ghost use Rattle.cache_core.specs.View.{bare};
-ghost use Rattle.cache_core.specs.Tied.{TiedInner};
+ghost use Rattle.cache_core.specs.Tied.{Within};
 ghost use Rattle.cache_calls.specs.Calls.{Does, claim_lays};
 
 use crate::inserting::claim_place;
@@ -19,7 +19,7 @@ pub fn claim<K: HashedKey, V: Copy>(
     given: V,
 ) -> Result<Claimed<V>, Refusal>
     ensures does { Does K.Key.meaning K.HashedKey.hashed (λ s. claimed inner.old.policy.core.capacity s (K.Key.meaning key) given) inner.old result inner.new }
-    ensures records { TiedInner K.Key.meaning K.HashedKey.hashed inner.old → bare inner.new.records.now ≡ claim_lays result key (bare inner.old.records.now) }
+    ensures records { Within K.Key.meaning K.HashedKey.hashed inner.old → bare inner.new.records.now ≡ claim_lays result key (bare inner.old.records.now) }
     ensures capacity { inner.new.policy.core.capacity ≡ inner.old.policy.core.capacity }
 {
     if inner.policy.capacity() == 0 {

@@ -7,7 +7,7 @@ ghost use Rattle.policy.specs.View.{view};
 ghost use Rattle.records.specs.declared.column.Column.TheVariants.{Resident as of_resident};
 ghost use Rattle.records.specs.Columns.{word_at};
 ghost use Rattle.cache_core.specs.View.{item_at, state};
-ghost use Rattle.cache_core.specs.Tied.{TiedInner, Resides};
+ghost use Rattle.cache_core.specs.Tied.{Within, Resides};
 
 use cache_core::Inner;
 use keys::kind::HashedKey;
@@ -42,8 +42,8 @@ pub(crate) fn find_at<K: HashedKey, V: Copy>(
 ) -> Option<u16>
     ensures place { IfSome result (λ p. p ≡ place) }
     ensures within { IfSome result (λ p. p < length inner.now.records.now) }
-    ensures resides { TiedInner K.Key.meaning K.HashedKey.hashed inner.now → IfSome result (λ p. Resides K.Key.meaning K.HashedKey.hashed (K.Key.meaning key.now) p inner.now) }
-    ensures look { (d : V) → TiedInner K.Key.meaning K.HashedKey.hashed inner.now → option_map (item_at K.Key.meaning d inner.now.records.now) result ≡ in_place place (look (K.Key.meaning key.now) (state K.Key.meaning d inner.now)) }
+    ensures resides { Within K.Key.meaning K.HashedKey.hashed inner.now → IfSome result (λ p. Resides K.Key.meaning K.HashedKey.hashed (K.Key.meaning key.now) p inner.now) }
+    ensures look { (d : V) → Within K.Key.meaning K.HashedKey.hashed inner.now → option_map (item_at K.Key.meaning d inner.now.records.now) result ≡ in_place place (look (K.Key.meaning key.now) (state K.Key.meaning d inner.now)) }
 {
     match u16::try_from(place) {
         Ok(narrow) => if stands_in(inner, narrow, key) {

@@ -7,6 +7,7 @@ mod loading;
 mod opening;
 mod reading;
 mod retaining;
+mod rule;
 mod using;
 mod writing;
 
@@ -15,5 +16,6 @@ pub use loading::fetch;
 pub use opening::{capacity, open};
 pub use reading::{contains, peek};
 pub use retaining::retain;
+pub use rule::AskedKeepRule;
 pub use using::{get, get_at};
 pub use writing::{put, remove, write_at};

@@ -1,7 +1,7 @@
 ghost use Rattle.std.specs.Prelude.{◌≡◌, false};
 ghost use Rattle.machine.specs.Machine.{fetch as loaded};
 ghost use Rattle.cache_core.specs.View.{bare};
-ghost use Rattle.cache_core.specs.Tied.{TiedInner};
+ghost use Rattle.cache_core.specs.Tied.{Within};
 ghost use Rattle.cache_calls.specs.Calls.{Does, fetch_lays, asks};
 
 use crate::inserting::bring_in;
@@ -20,7 +20,7 @@ pub fn fetch<K: HashedKey, V: Copy, L: Loader<K, V>>(
     key: K,
 ) -> Result<Fetched<V>, Refusal>
     ensures does { Does K.Key.meaning K.HashedKey.hashed (λ s. loaded inner.old.policy.core.capacity (L.Loader.given loader.old) s (K.Key.meaning key)) inner.old result inner.new }
-    ensures records { TiedInner K.Key.meaning K.HashedKey.hashed inner.old → bare inner.new.records.now ≡ fetch_lays result key (bare inner.old.records.now) }
+    ensures records { Within K.Key.meaning K.HashedKey.hashed inner.old → bare inner.new.records.now ≡ fetch_lays result key (bare inner.old.records.now) }
     ensures meaning { L.Loader.given loader.new ≡ L.Loader.given loader.old }
     ensures unasked { asks result ≡ false → loader.new ≡ loader.old }
     ensures capacity { inner.new.policy.core.capacity ≡ inner.old.policy.core.capacity }

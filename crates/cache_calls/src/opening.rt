@@ -2,7 +2,7 @@ ghost use Rattle.std.specs.Prelude.{◌≡◌, length};
 ghost use Rattle.machine.specs.Measure.{opened_with};
 ghost use Rattle.machine.specs.Replacement.{nothing};
 ghost use Rattle.cache_core.specs.View.{state};
-ghost use Rattle.cache_core.specs.Tied.{TiedInner};
+ghost use Rattle.cache_core.specs.Tied.{Within};
 
 use cache_core::Inner;
 use index::KeyIndex;
@@ -14,7 +14,7 @@ use records::Record;
 pub fn open<'a, K: HashedKey, V: Copy>(records: &'a mut [Record<K, V>]) -> Inner<'a, K, V>
     ensures capacity { result.policy.core.capacity ≡ opened_with (length records.old) }
     ensures nothing { (d : V) → state K.Key.meaning d result ≡ nothing }
-    ensures tied { TiedInner K.Key.meaning K.HashedKey.hashed result }
+    ensures tied { Within K.Key.meaning K.HashedKey.hashed result }
     ensures records { result.records.now ≡ records.old }
 {
     let policy = Policy::open(records.len());

@@ -1,7 +1,7 @@
 ghost use Rattle.std.specs.Prelude.{◌≡◌, ◌≤◌};
 ghost use Rattle.machine.specs.Machine.{look, put as laid, remove as taken, write_at_lem as rewritten};
 ghost use Rattle.cache_core.specs.View.{bare, state};
-ghost use Rattle.cache_core.specs.Tied.{TiedInner};
+ghost use Rattle.cache_core.specs.Tied.{Within};
 ghost use Rattle.cache_calls.specs.Calls.{Does, put_lays, write_lays};
 
 use crate::finding::find_at;
@@ -19,7 +19,7 @@ pub fn put<K: HashedKey, V: Copy>(
     value: V,
 ) -> Result<Placed<V>, Refusal>
     ensures does { Does K.Key.meaning K.HashedKey.hashed (λ s. laid inner.old.policy.core.capacity s (K.Key.meaning key) value) inner.old result inner.new }
-    ensures records { TiedInner K.Key.meaning K.HashedKey.hashed inner.old → (d : V) → bare inner.new.records.now ≡ put_lays result (look (K.Key.meaning key) (state K.Key.meaning d inner.old)) key value (bare inner.old.records.now) }
+    ensures records { Within K.Key.meaning K.HashedKey.hashed inner.old → (d : V) → bare inner.new.records.now ≡ put_lays result (look (K.Key.meaning key) (state K.Key.meaning d inner.old)) key value (bare inner.old.records.now) }
     ensures capacity { inner.new.policy.core.capacity ≡ inner.old.policy.core.capacity }
 {
     if inner.policy.capacity() == 0 {

@@ -1,7 +1,6 @@
 -- The steps of an insertion put together.
-use Rattle.std.proofs.Common.{◌≡◌, ℕ, zero, suc, ◌+◌, ◌<◌, ◌≤◌, Bool, true, false, cond, eqb, List, [], ◌∷◌, map, length, Some, None, Option, sym, refl, ap, ◌∙◌, subst, arith, eq-eqb}
+use Rattle.std.proofs.Common.{◌≡◌, ℕ, ◌<◌, ◌≤◌, Bool, cond, eqb, List, length, Some, None, Option, sym, refl, ap, ◌∙◌, subst, arith, eq-eqb}
 use Rattle.machine.specs.declared.report.Part.{Part}
-use Rattle.machine.specs.declared.report.Report.{Report}
 use Rattle.machine.specs.Replacement.{Parts, Vacated, vacated, seated, forgets}
 use Rattle.machine.specs.Machine.{Item, Cell, State, same, has, cell_of, lays, lying, arrival, settled, report_of}
 use Rattle.handles.specs.Seek.{first_by}
@@ -13,17 +12,16 @@ use Rattle.policy.specs.View.{view}
 use Rattle.policy.specs.Insertion.{node_of, Done}
 use Rattle.index.specs.declared.index.KeyIndex.{KeyIndex}
 use Rattle.index.specs.Filed.{bears}
-use Rattle.index.specs.Ties.{occurs}
 use Rattle.index.proofs.Firsts.{counts_one}
 use Rattle.records.specs.declared.column.Column.TheVariants.{Resident, Remembered as of_ghost}
 use Rattle.records.specs.declared.record.Record.{Record}
 use Rattle.records.specs.Columns.{word_at}
 use Rattle.cache_core.specs.declared.inner.Inner.{Inner}
 use Rattle.cache_core.specs.View.{places, value_at, bare, rekeyed, seen, state, ghost_words}
-use Rattle.cache_core.specs.Tied.{Tied, TiedInner, Forgotten, OnlyGhost}
+use Rattle.cache_core.specs.Tied.{TiedWithin, ForgottenWithin, OnlyGhost}
 use Rattle.cache_core.specs.Filing.{LaysSeated, SameButResidents}
 use Rattle.cache_core.specs.Departing.{Departs}
-use Rattle.cache_core.specs.Admitting.{Absent, Admitted, LaidIn}
+use Rattle.cache_core.specs.Admitting.{Absent, AdmittedWithin, LaidIn}
 use Rattle.cache_core.proofs.Standing.{Orderly, orderly}
 use Rattle.cache_core.proofs.Tying.{places_seated}
 use Rattle.cache_core.proofs.Readied.{Ready}
@@ -36,7 +34,7 @@ module _ {K V : Type 0} (mean : K → List ℕ) (hashed : List ℕ → ℕ) wher
   departs_policy x y place None None d = d.0.1.0
 
   module _ (x x₁ x₂ x₃ y : Inner K V) (hash : ℕ) (key : K) (known : Bool) (r : Inserted)
-      (answer : known ≡ has (mean key) (ghost_words mean x)) (forgot : (d : V) → state mean d x₁ ≡ forgets (same (mean key)) (state mean d x)) (clean : Forgotten mean hashed (mean key) x₁) (kept : OnlyGhost x x₁)
+      (answer : known ≡ has (mean key) (ghost_words mean x)) (forgot : (d : V) → state mean d x₁ ≡ forgets (same (mean key)) (state mean d x)) (clean : ForgottenWithin mean hashed (mean key) x₁) (kept : OnlyGhost x x₁)
       (same_records : x₂.records.now ≡ x₁.records.now) (same_residents : x₂.residents ≡ x₁.residents) (same_remembered : x₂.remembered ≡ x₁.remembered)
       (pos : 1 ≤ x₁.policy.core.capacity) (done : Done x₁.policy.core.capacity known (view x₁.policy.core) (view x₂.policy.core) r) (sized : x₂.policy.core.capacity ≡ x₁.policy.core.capacity)
       (departs : Departs mean hashed x₂ r.place r.vacancy.noted r.vacancy.left x₃) (seats : LaysSeated mean hashed x₃ r.place hash key y) (rest : SameButResidents x₃ y)
@@ -56,11 +54,11 @@ module _ {K V : Type 0} (mean : K → List ℕ) (hashed : List ℕ → ℕ) wher
     abbrev v : Vacated ℕ ℕ ℕ
     v = vacated (λ _. node) (λ q. q) c known s
 
-    tied : Tied mean hashed c rs s x₂.residents x₂.remembered
+    tied : TiedWithin mean hashed c rs s x₂.residents x₂.remembered
     tied =
-        subst (λ (l : List (Record K V)). Tied mean hashed c l s x₂.residents x₂.remembered) (sym same_records)
-        (subst (λ (i : KeyIndex). Tied mean hashed c x₁.records.now s i x₂.remembered) (sym same_residents)
-        (subst (λ (j : KeyIndex). Tied mean hashed c x₁.records.now s x₁.residents j) (sym same_remembered) clean.0))
+        subst (λ (l : List (Record K V)). TiedWithin mean hashed c l s x₂.residents x₂.remembered) (sym same_records)
+        (subst (λ (i : KeyIndex). TiedWithin mean hashed c x₁.records.now s i x₂.remembered) (sym same_residents)
+        (subst (λ (j : KeyIndex). TiedWithin mean hashed c x₁.records.now s x₁.residents j) (sym same_remembered) clean.0))
 
     after : Orderly c (seated c v r.place)
     after = subst (Orderly c) done.parts (subst (λ (n : ℕ). Orderly n (view x₂.policy.core)) sized (orderly x₂.policy))
@@ -103,7 +101,7 @@ module _ {K V : Type 0} (mean : K → List ℕ) (hashed : List ℕ → ℕ) wher
         admitted_bare mean hashed c known s r.place node rs x₂.residents x₂.remembered key tied done.place after within no_resident no_ghost x₃.records.now y.records.now x₃.residents x₃.remembered y.residents ready (seats h)
         ∙ ap (λ (l : List (Record K V)). rekeyed r.place key (bare l)) (same_records ∙ kept.0)
 
-    pub admits : Admitted mean hashed x (mean key) r y
+    pub admits : AdmittedWithin mean hashed x (mean key) r y
     admits =
         record {
           next = λ d.
@@ -128,9 +126,9 @@ module _ {K V : Type 0} (mean : K → List ℕ) (hashed : List ℕ → ℕ) wher
           resides =
               subst (λ (t : Parts ℕ ℕ ℕ). Some r.place ≡ first_by (bears (word_at mean Resident y.records.now) (mean key)) (places t)) (sym parts_same)
               (admitted_resides mean hashed c known s r.place node rs x₂.residents x₂.remembered key tied done.place after within no_resident no_ghost x₃.records.now y.records.now x₃.residents x₃.remembered y.residents ready (seats h));
-          tied =
-              subst (λ (n : ℕ). Tied mean hashed n y.records.now (view y.policy.core) y.residents y.remembered) (sym (ap (λ (q : Policy). q.core.capacity) policy_same ∙ sized))
-              (subst (λ (t : Parts ℕ ℕ ℕ). Tied mean hashed c y.records.now t y.residents y.remembered) (sym parts_same)
-              (subst (λ (j : KeyIndex). Tied mean hashed c y.records.now (seated c v r.place) y.residents j) (sym rest.1)
+          within =
+              subst (λ (n : ℕ). TiedWithin mean hashed n y.records.now (view y.policy.core) y.residents y.remembered) (sym (ap (λ (q : Policy). q.core.capacity) policy_same ∙ sized))
+              (subst (λ (t : Parts ℕ ℕ ℕ). TiedWithin mean hashed c y.records.now t y.residents y.remembered) (sym parts_same)
+              (subst (λ (j : KeyIndex). TiedWithin mean hashed c y.records.now (seated c v r.place) y.residents j) (sym rest.1)
               (admitted_tied mean hashed c known s r.place node rs x₂.residents x₂.remembered key tied done.place after within no_resident no_ghost x₃.records.now y.records.now x₃.residents x₃.remembered y.residents ready (seats h))));
         }

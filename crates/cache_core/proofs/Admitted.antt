@@ -1,45 +1,44 @@
 -- An insertion through policy, indexes and records is the machine's, and the indexes stay tied.
-use Rattle.std.proofs.Common.{◌≡◌, ℕ, zero, suc, ◌+◌, ◌<◌, ◌≤◌, Bool, true, false, cond, eqb, List, [], ◌∷◌, map, length, is_some, Some, None, Option, sym, refl, ap, ◌∙◌, subst, arith, eq-eqb}
+use Rattle.std.proofs.Common.{◌≡◌, ℕ, ◌<◌, ◌≤◌, Bool, true, false, cond, eqb, List, ◌∷◌, length, is_some, Some, None, Option, sym, refl, ap, ◌∙◌, subst, arith, eq-eqb}
 use Rattle.std.specs.Option.{option_map}
 use Rattle.machine.specs.declared.report.Part.{Part}
 use Rattle.machine.specs.declared.report.Part.TheVariants.{Small, Main}
-use Rattle.machine.specs.declared.report.Report.{Report}
 use Rattle.machine.specs.Replacement.{Parts, Vacated, vacated, seated}
 use Rattle.machine.specs.Machine.{Item, Cell, same, lays, lying, settled, report_of, place_of}
 use Rattle.handle_laws.specs.Runs.{how_many}
 use Rattle.ghosts.specs.declared.noted.Noted.{Noted}
 use Rattle.policy.specs.declared.plan.Inserted.{Inserted}
-use Rattle.policy.specs.Insertion.{place_at, node_of, Told, Done}
+use Rattle.policy.specs.Insertion.{place_at, node_of, Told}
 use Rattle.index.specs.declared.index.KeyIndex.{KeyIndex}
 use Rattle.index.specs.Filed.{is_key, bears}
 use Rattle.index.specs.Ties.{occurs, Ties}
 use Rattle.handles.specs.Seek.{first_by}
 use Rattle.handles.proofs.Meaning.{alike_decides}
 use Rattle.index.proofs.Firsts.{counts_one, first_only, stands_counts}
-use Rattle.index.proofs.Joined.{Alike, alike_length, same_count, ties_laid}
+use Rattle.index.proofs.Joined.{alike_length, same_count, ties_laid}
 use Rattle.records.specs.declared.column.Column.TheVariants.{Resident as of_resident, Remembered as of_ghost}
 use Rattle.records.specs.declared.record.Record.{Record}
 use Rattle.records.specs.Columns.{key_at_lem, word_at, keyed}
 use Rattle.records.proofs.Keyed.{keyed_length, key_here, key_elsewhere, remembered_stays}
 use Rattle.cache_core.specs.declared.inner.Inner.{Inner}
 use Rattle.cache_core.specs.View.{places, or_empty, value_at, bare, rekeyed, word_in, item_at, cell_at, seen}
-use Rattle.cache_core.specs.Tied.{Tied}
+use Rattle.cache_core.specs.Tied.{TiedWithin}
 use Rattle.cache_core.specs.Filing.{Laid}
 use Rattle.cache_core.specs.Departing.{Departs}
 use Rattle.cache_core.proofs.Looked.{same_bears}
 use Rattle.cache_core.proofs.Settled.{settles}
 use Rattle.cache_core.proofs.Standing.{Orderly, same_occurs}
-use Rattle.cache_core.proofs.Leaving.{Leaves, leaves, from_small}
+use Rattle.cache_core.proofs.Leaving.{leaves, from_small}
 use Rattle.cache_core.proofs.Bare.{bare_keyed}
 use Rattle.cache_core.proofs.Spots.{spotted, lies_at}
-use Rattle.cache_core.proofs.Arrived.{meant, arrived, place_carried, value_keyed, word_keyed, word_laid, ghost_keyed}
+use Rattle.cache_core.proofs.Arrived.{meant, arrived, place_carried, value_keyed, word_laid, ghost_keyed}
 use Rattle.cache_core.proofs.Tying.{places_seated, nobodys, count_left, tied_after}
 use Rattle.cache_core.proofs.Readied.{half, Ready, ready_plain, plain_some, plain_none, ready_noted, node_within, key_there, unheard, short}
 
 module _ {K V : Type 0} (mean : K → List ℕ) (hashed : List ℕ → ℕ) (c : ℕ) (known : Bool) (s : Parts ℕ ℕ ℕ) (place : ℕ) where
   -- halfway, from what the departure did
   pub readied :
-      (x y : Inner K V) (noted : Option Noted) (left : Option Part) → Tied mean hashed c x.records.now s x.residents x.remembered → Orderly c s → 1 ≤ c →
+      (x y : Inner K V) (noted : Option Noted) (left : Option Part) → TiedWithin mean hashed c x.records.now s x.residents x.remembered → Orderly c s → 1 ≤ c →
       place ≡ place_at (vacated (λ _. node_of noted) (λ q. q) c known s).spot → Orderly c (seated c (vacated (λ _. node_of noted) (λ q. q) c known s) place) → place < length x.records.now →
       left ≡ (vacated (λ _. node_of noted) (λ q. q) c known s).left → Told s.remembered left noted → Departs mean hashed x place noted left y →
       Ready mean hashed c (node_of noted) known s x.records.now place y.records.now y.residents y.remembered
@@ -75,7 +74,7 @@ module _ {K V : Type 0} (mean : K → List ℕ) (hashed : List ℕ → ℕ) (c :
       (subst (λ (i : KeyIndex). Ready mean hashed c 0 known s rs place rs i x.remembered) (sym dep.1)
       (ready_plain mean hashed c 0 known s rs place x.residents x.remembered t at x.residents e ti)))
 
-  module _ (node : ℕ) (rs : List (Record K V)) (i j : KeyIndex) (key : K) (t : Tied mean hashed c rs s i j) (at : place ≡ place_at (half mean hashed c node known s rs place).spot) (after : Orderly c (seated c (half mean hashed c node known s rs place) place)) (within : place < length rs)
+  module _ (node : ℕ) (rs : List (Record K V)) (i j : KeyIndex) (key : K) (t : TiedWithin mean hashed c rs s i j) (at : place ≡ place_at (half mean hashed c node known s rs place).spot) (after : Orderly c (seated c (half mean hashed c node known s rs place) place)) (within : place < length rs)
       (no_resident : how_many (bears (word_at mean of_resident rs) (mean key)) (places s) ≡ 0) (no_ghost : how_many (bears (word_at mean of_ghost rs) (mean key)) s.remembered ≡ 0)
       (qs qs' : List (Record K V)) (i' j' i'' : KeyIndex) (ready : Ready mean hashed c node known s rs place qs i' j') (lay : Laid mean hashed of_resident qs i' place key qs' i'') where
     abbrev v : Vacated ℕ ℕ ℕ
@@ -111,7 +110,7 @@ module _ {K V : Type 0} (mean : K → List ℕ) (hashed : List ℕ → ℕ) (c :
     key_same : (q : ℕ) → 0 < occurs q (places v.parts) → key_at_lem of_resident laid q ≡ key_at_lem of_resident rs q
     key_same q some = key_elsewhere of_resident qs place key q (apart q some) ∙ ready.same q
 
-    laid_tied : Tied mean hashed c laid (seated c v place) i'' j'
+    laid_tied : TiedWithin mean hashed c laid (seated c v place) i'' j'
     laid_tied =
         tied_after mean hashed c node place s v (leaves c node s known) at rs laid i j i'' j' (mean key) t
         (keyed_length of_resident qs place key ∙ ready.long) no_resident no_ghost
@@ -123,8 +122,8 @@ module _ {K V : Type 0} (mean : K → List ℕ) (hashed : List ℕ → ℕ) (c :
         let b = ready.counts x in
         omega arith)
 
-    pub admitted_tied : Tied mean hashed c qs' (seated c v place) i'' j'
-    admitted_tied = subst (λ (l : List (Record K V)). Tied mean hashed c l (seated c v place) i'' j') (sym done.0) laid_tied
+    pub admitted_tied : TiedWithin mean hashed c qs' (seated c v place) i'' j'
+    admitted_tied = subst (λ (l : List (Record K V)). TiedWithin mean hashed c l (seated c v place) i'' j') (sym done.0) laid_tied
 
     -- the newcomer is found in its place
     pub admitted_resides : Some place ≡ first_by (bears (word_at mean of_resident qs') (mean key)) (places (seated c v place))

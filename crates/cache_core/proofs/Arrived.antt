@@ -1,5 +1,5 @@
 -- An insertion at places is the machine's insertion of keys and values, over the records with the new key laid.
-use Rattle.std.proofs.Common.{◌≡◌, ℕ, zero, suc, ◌+◌, ◌<◌, ◌≤◌, Bool, true, false, cond, ◌⊎◌, List, [], ◌∷◌, ◌++◌, map, length, take, Some, None, Option, sym, refl, ap, ◌∙◌, subst, inl, inr, arith}
+use Rattle.std.proofs.Common.{◌≡◌, ℕ, zero, suc, ◌<◌, Bool, true, false, List, [], ◌∷◌, map, length, take, Some, None, Option, sym, refl, ap, ◌∙◌, arith}
 use Rattle.std.specs.Option.{option_map}
 use Rattle.machine.specs.Limits.{ghost_limit}
 use Rattle.machine.specs.Replacement.{Resident, Parts, Ended, Spot, reused, fresh, Vacated, ended, vacated, seated}

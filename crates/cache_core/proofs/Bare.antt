@@ -1,5 +1,5 @@
 -- What is laid in the records, seen without the keys that Ghost remembers.
-use Rattle.std.proofs.Common.{◌≡◌, ℕ, zero, suc, List, [], ◌∷◌, refl, ap}
+use Rattle.std.proofs.Common.{◌≡◌, ℕ, zero, suc, List, [], ◌∷◌, length, refl, sym, ap, ◌∙◌}
 use Rattle.records.specs.declared.column.Column.TheVariants.{Resident, Remembered}
 use Rattle.records.specs.declared.record.Record.{Record}
 use Rattle.records.specs.Columns.{keyed}
@@ -20,3 +20,15 @@ module _ {K V : Type 0} where
   bare_valued [] p v = refl
   bare_valued (r ∷ rs) zero v = refl
   bare_valued (r ∷ rs) (suc p) v = ap (λ (l : List (K × V)). (r.key, r.value) ∷ l) (bare_valued rs p v)
+
+  bare_length : (rs : List (Record K V)) → length (bare rs) ≡ length rs
+  bare_length [] = refl
+  bare_length (r ∷ rs) = ap suc (bare_length rs)
+
+  rekeyed_length : (p : ℕ) (k : K) (rs : List (K × V)) → length (rekeyed p k rs) ≡ length rs
+  rekeyed_length p k [] = refl
+  rekeyed_length zero k (r ∷ rs) = refl
+  rekeyed_length (suc p) k (r ∷ rs) = ap suc (rekeyed_length p k rs)
+
+  pub long_kept : (rs qs : List (Record K V)) (p : ℕ) (k : K) → bare qs ≡ rekeyed p k (bare rs) → length qs ≡ length rs
+  long_kept rs qs p k e = sym (bare_length qs) ∙ (ap length e ∙ (rekeyed_length p k (bare rs) ∙ bare_length rs))

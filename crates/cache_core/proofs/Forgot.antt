@@ -1,24 +1,23 @@
 -- A node of Ghost forgotten is a key forgotten, and the indexes stay tied.
-use Rattle.std.proofs.Common.{◌≡◌, ℕ, zero, suc, ◌+◌, ◌<◌, ◌≤◌, Bool, true, false, cond, not, ◌||◌, eqb, ◌⊎◌, List, [], ◌∷◌, ◌++◌, map, length, is_some, Some, None, filter, Option, sym, refl, ap, ◌∙◌, subst, inl, inr, arith, eq-eqb}
+use Rattle.std.proofs.Common.{◌≡◌, ℕ, ◌<◌, true, false, cond, not, ◌||◌, eqb, List, [], ◌∷◌, map, length, Some, filter, Option, sym, refl, ap, inl, inr, arith}
 use Rattle.std.specs.List.{AllByRecursion as All}
 use Rattle.std.proofs.lemmas.Bool.Decides.{eqb_tells}
 use Rattle.links.specs.Rows as rows
-use Rattle.machine.specs.Replacement.{Resident, Parts, forgets}
-use Rattle.machine.specs.Machine.{Item, Cell, State, same, has}
+use Rattle.machine.specs.Replacement.{Parts, forgets}
+use Rattle.machine.specs.Machine.{same, has}
 use Rattle.machine_laws.proofs.Carried.{forgets_carried}
 use Rattle.handles.specs.Seek.{first_by}
 use Rattle.handle_laws.specs.Runs.{how_many}
-use Rattle.handle_laws.proofs.Totals.{first_none}
 use Rattle.index.specs.declared.index.KeyIndex.{KeyIndex}
-use Rattle.index.specs.Filed.{is_key, bears}
+use Rattle.index.specs.Filed.{bears}
 use Rattle.index.specs.Ties.{occurs, Ties}
 use Rattle.index.proofs.Firsts.{counts_one, not_both}
-use Rattle.index.proofs.Joined.{Alike, alike_count, alike_kept, counts_none}
-use Rattle.records.specs.declared.column.Column.TheVariants.{Resident as of_resident, Remembered as of_ghost}
+use Rattle.index.proofs.Joined.{Alike, alike_count, alike_kept}
+use Rattle.records.specs.declared.column.Column.TheVariants.{Remembered as of_ghost}
 use Rattle.records.specs.declared.record.Record.{Record}
 use Rattle.records.specs.Columns.{word_at}
-use Rattle.cache_core.specs.View.{places, word_in, item_at, cell_at, seen}
-use Rattle.cache_core.specs.Tied.{Tied}
+use Rattle.cache_core.specs.View.{word_in, item_at, cell_at, seen}
+use Rattle.cache_core.specs.Tied.{TiedWithin}
 use Rattle.cache_core.proofs.Looked.{here}
 use Rattle.cache_core.proofs.Only.{passes, its_word, only}
 use Rattle.cache_core.proofs.Standing.{Orderly, same_occurs}
@@ -52,7 +51,7 @@ module _ {K V : Type 0} (mean : K → List ℕ) (rs : List (Record K V)) (w : Li
       ap (λ (l : List (List ℕ)). record { small = (seen mean d rs s).small; main = (seen mean d rs s).main; remembered = l; free = (seen mean d rs s).free; opened = s.opened })
       (sym (none_forgotten w (map (word_in mean of_ghost rs) s.remembered) e))
 
-  module _ (hashed : List ℕ → ℕ) (c : ℕ) (s : Parts ℕ ℕ ℕ) (i j : KeyIndex) (node : ℕ) (t : Tied mean hashed c rs s i j) (o : Orderly c s) (within : (q : ℕ) → 0 < occurs q s.remembered → q < length rs) (found : Some node ≡ first_by (bears lying w) s.remembered) where
+  module _ (hashed : List ℕ → ℕ) (c : ℕ) (s : Parts ℕ ℕ ℕ) (i j : KeyIndex) (node : ℕ) (t : TiedWithin mean hashed c rs s i j) (o : Orderly c s) (within : (q : ℕ) → 0 < occurs q s.remembered → q < length rs) (found : Some node ≡ first_by (bears lying w) s.remembered) where
     there : (bears lying w node ≡ true) × (0 < occurs node s.remembered)
     there = passes mean of_ghost rs w s.remembered node found
 
@@ -72,7 +71,7 @@ module _ {K V : Type 0} (mean : K → List ℕ) (rs : List (Record K V)) (w : Li
         (all_from (λ q. same w (word_in mean of_ghost rs q) ≡ eqb q node) s.remembered (only mean of_ghost rs w s.remembered node found within (t.remembered.apart w)))
 
     -- and the indexes are right after
-    pub forgets_tied : (j' : KeyIndex) → Ties hashed lying (others node s.remembered) j' → Tied mean hashed c rs (forgets (λ q. eqb q node) s) i j' × (how_many (bears lying w) (others node s.remembered) ≡ 0)
+    pub forgets_tied : (j' : KeyIndex) → Ties hashed lying (others node s.remembered) j' → TiedWithin mean hashed c rs (forgets (λ q. eqb q node) s) i j' × (how_many (bears lying w) (others node s.remembered) ≡ 0)
     forgets_tied j' tj = (
       record {
         sized = t.sized;

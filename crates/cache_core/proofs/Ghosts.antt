@@ -1,16 +1,12 @@
 -- The nodes of Ghost as the tail of Small is noted: the node's former key, if it had one, is the one that Ghost loses.
-use Rattle.std.proofs.Common.{◌≡◌, ℕ, zero, suc, ◌+◌, ◌-◌, ◌<◌, ◌≤◌, Bool, true, false, cond, not, ◌&&◌, ◌||◌, eqb, leb, ◌⊎◌, List, [], ◌∷◌, ◌++◌, map, length, take, drop, Some, None, filter, Option, sym, refl, ap, ◌∙◌, subst, inl, inr, arith, eq-eqb}
+use Rattle.std.proofs.Common.{◌≡◌, ℕ, zero, suc, ◌+◌, ◌<◌, ◌≤◌, Bool, true, false, cond, not, ◌&&◌, ◌||◌, eqb, leb, List, [], ◌∷◌, map, length, take, drop, filter, sym, refl, ap, ◌∙◌, inl, inr, arith, eq-eqb}
 use Rattle.std.proofs.lemmas.Bool.Decides.{eqb_tells}
-use Rattle.machine.specs.declared.report.Part.{Part}
-use Rattle.machine.specs.declared.report.Part.TheVariants.{Small, Main}
 use Rattle.machine.specs.Limits.{small_limit, ghost_limit}
-use Rattle.machine.specs.Replacement.{Resident, Parts, Swept, Ended, Vacated, Plan, grow, evict_main, promote_tail, evict_tail, plan, plan_of, to_main, vacancy, main_full, is_tail_used, carried_out, vacated, sweep, ended}
+use Rattle.machine.specs.Replacement.{Parts, Plan, grow, evict_main, promote_tail, evict_tail, plan, plan_of, to_main, vacancy, main_full, is_tail_used, carried_out, vacated, sweep, ended}
 use Rattle.handle_laws.specs.Runs.{how_many}
 use Rattle.index.specs.Ties.{occurs}
 use Rattle.index.proofs.Firsts.{counts_one, not_both}
 use Rattle.index.proofs.Joined.{Alike, alike_kept, counts_none}
-use Rattle.cache_core.proofs.Looked.{here}
-use Rattle.cache_core.proofs.Standing.{Orderly}
 use Rattle.cache_core.proofs.Leaving.{from_small, main_not, promoted_not, popped_none, ft}
 use Rattle.cache_core.proofs.Tying.{pigeon}
 

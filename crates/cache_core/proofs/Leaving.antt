@@ -1,10 +1,10 @@
 -- Who leaves as a place is vacated, counted; and that what Ghost keeps matters only where the tail of Small leaves.
-use Rattle.std.proofs.Common.{◌≡◌, ℕ, zero, suc, ◌+◌, ◌<◌, ◌≤◌, Bool, true, false, cond, eqb, ◌⊎◌, List, [], ◌∷◌, ◌++◌, map, length, take, is_some, Some, None, Option, sym, refl, ap, ◌∙◌, subst, inl, inr, arith}
+use Rattle.std.proofs.Common.{◌≡◌, ℕ, suc, ◌+◌, Bool, true, false, cond, eqb, List, [], ◌∷◌, ◌++◌, map, take, is_some, Some, None, Option, sym, refl, ap, ◌∙◌, arith}
 use Rattle.std.proofs.lemmas.List.{map-append}
 use Rattle.machine.specs.declared.report.Part.{Part}
 use Rattle.machine.specs.declared.report.Part.TheVariants.{Small, Main}
 use Rattle.machine.specs.Limits.{ghost_limit}
-use Rattle.machine.specs.Replacement.{Resident, Parts, Swept, Ended, Spot, reused, fresh, Vacated, Plan, grow, evict_main, promote_tail, evict_tail, marked, plain, is_used, came_round, sweep_from, sweep, before, ended, popped, main_evicted, tail_promoted, tail_evicted, carried_out, plan_of, vacated}
+use Rattle.machine.specs.Replacement.{Resident, Parts, Swept, Ended, reused, Vacated, Plan, grow, evict_main, promote_tail, evict_tail, marked, plain, is_used, sweep_from, sweep, before, ended, popped, main_evicted, tail_promoted, tail_evicted, carried_out, plan_of, vacated}
 use Rattle.handle_laws.proofs.Counting.{how_many_append}
 use Rattle.policy.specs.Insertion.{place_at}
 use Rattle.index.specs.Ties.{occurs}

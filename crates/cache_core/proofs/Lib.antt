@@ -4,6 +4,7 @@ pub mod Only
 pub mod Leaving
 pub mod Arrived
 pub mod Tying
+pub mod Exact
 pub mod Bare
 pub mod Spots
 pub mod Ghosts

@@ -1,20 +1,20 @@
 -- What is found in an index is what the machine finds among its residents and in Ghost.
-use Rattle.std.proofs.Common.{◌≡◌, ℕ, zero, suc, ◌+◌, ◌<◌, ◌≤◌, Bool, true, false, cond, ◌&&◌, ◌||◌, eqb, ◌⊎◌, List, [], ◌∷◌, ◌++◌, map, length, is_some, IfSome, Some, None, Option, sym, refl, ap, ◌∙◌, subst, inl, inr, le_of_suc-le-suc, arith, eq-eqb}
+use Rattle.std.proofs.Common.{◌≡◌, ℕ, zero, suc, ◌<◌, Bool, true, false, cond, ◌&&◌, ◌||◌, eqb, List, [], ◌∷◌, ◌++◌, map, length, is_some, IfSome, Some, None, Option, refl, ap, ◌∙◌, le_of_suc-le-suc, arith, eq-eqb}
 use Rattle.std.specs.Option.{option_map}
 use Rattle.std.proofs.lemmas.List.{map-append}
 use Rattle.handles.specs.Meaning.{alike}
 use Rattle.handles.specs.Seek.{first_by}
 use Rattle.machine.specs.Replacement.{Resident, Parts}
-use Rattle.machine.specs.Machine.{Item, State, same, has, find, look}
+use Rattle.machine.specs.Machine.{Item, same, has, find, look}
 use Rattle.index.specs.declared.index.KeyIndex.{KeyIndex}
-use Rattle.index.specs.Filed.{is_key, bears, Found}
+use Rattle.index.specs.Filed.{bears, Found}
 use Rattle.index.specs.Ties.{occurs}
 use Rattle.index.proofs.Firsts.{counts_one}
 use Rattle.records.specs.declared.column.Column.{Column}
 use Rattle.records.specs.declared.column.Column.TheVariants.{Resident as of_resident, Remembered as of_ghost}
 use Rattle.records.specs.declared.record.Record.{Record}
 use Rattle.records.specs.Columns.{word_at}
-use Rattle.cache_core.specs.View.{places, or_empty, word_in, item_at, seen}
+use Rattle.cache_core.specs.View.{places, word_in, item_at, seen}
 
 -- the two tests of meanings are one
 pub same_alike : (x y : List ℕ) → same x y ≡ alike x y

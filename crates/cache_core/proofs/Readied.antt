@@ -1,5 +1,5 @@
 -- The records and indexes halfway through an insertion: who left is out of the residents' index, and with Ghost if it left Small.
-use Rattle.std.proofs.Common.{◌≡◌, ℕ, zero, suc, ◌+◌, ◌<◌, ◌≤◌, Bool, true, false, cond, eqb, List, [], ◌∷◌, ◌++◌, map, length, take, is_some, Some, None, Option, sym, refl, ap, ◌∙◌, subst, le_of_suc-le-suc, arith, eq-eqb}
+use Rattle.std.proofs.Common.{◌≡◌, ℕ, zero, suc, ◌+◌, ◌<◌, ◌≤◌, Bool, true, false, cond, eqb, List, [], ◌∷◌, length, take, is_some, Some, None, Option, sym, refl, ap, ◌∙◌, subst, le_of_suc-le-suc, arith, eq-eqb}
 use Rattle.std.specs.Option.{option_map}
 use Rattle.machine.specs.declared.report.Part.{Part}
 use Rattle.machine.specs.declared.report.Part.TheVariants.{Small, Main}
@@ -8,8 +8,6 @@ use Rattle.machine.specs.Replacement.{Parts, Vacated, vacated, seated}
 use Rattle.machine_laws.proofs.Carried.{carry_vacated}
 use Rattle.handles.proofs.Meaning.{alike_decides}
 use Rattle.handle_laws.specs.Runs.{how_many}
-use Rattle.links.specs.Rows as rows
-use Rattle.ghosts.specs.declared.noted.Noted.{Noted}
 use Rattle.policy.specs.Insertion.{place_at}
 use Rattle.index.specs.declared.index.KeyIndex.{KeyIndex}
 use Rattle.index.specs.Filed.{is_key, bears}
@@ -21,13 +19,13 @@ use Rattle.records.specs.declared.column.Column.TheVariants.{Resident as of_resi
 use Rattle.records.specs.declared.record.Record.{Record}
 use Rattle.records.specs.Columns.{key_of, key_at_lem, word_at, keyed}
 use Rattle.records.proofs.Keyed.{keyed_length, key_here, key_elsewhere, resident_stays}
-use Rattle.cache_core.specs.View.{places, or_empty, value_at, bare, word_in, item_at, cell_at, seen}
-use Rattle.cache_core.specs.Tied.{Tied}
-use Rattle.cache_core.proofs.Standing.{Orderly, same_occurs}
+use Rattle.cache_core.specs.View.{places, or_empty, value_at, bare, word_in, item_at, cell_at}
+use Rattle.cache_core.specs.Tied.{TiedWithin}
+use Rattle.cache_core.proofs.Standing.{Orderly}
 use Rattle.cache_core.proofs.Leaving.{Leaves, leaves, noted_by, from_small}
 use Rattle.cache_core.proofs.Bare.{bare_noted}
-use Rattle.cache_core.proofs.Arrived.{meant, arrived_plain, arrived_noted, value_keyed, word_keyed, word_laid}
-use Rattle.cache_core.proofs.Tying.{places_seated, ghost_seated, somebody_left, nobody_left}
+use Rattle.cache_core.proofs.Arrived.{meant, arrived_plain, arrived_noted, value_keyed}
+use Rattle.cache_core.proofs.Tying.{ghost_seated, somebody_left, nobody_left}
 use Rattle.cache_core.proofs.Ghosts.{others, noted_nodes, same_words, ghost_room, others_fewer, others_gone}
 
 -- the key that lies in a record
@@ -72,7 +70,7 @@ module _ {K V : Type 0} (mean : K → List ℕ) (hashed : List ℕ → ℕ) (c n
     pub counts : (x : List ℕ) → how_many (bears (word_at mean of_ghost qs) x) half.parts.remembered ≤ cond (is_some half.left) (cond (bears (word_at mean of_resident rs) x place) 1 0) 0 + how_many (bears (word_at mean of_ghost rs) x) s.remembered
     pub first : (d : V) → meant mean d c known s node rs ≡ carry_vacated (item_at mean d rs) (word_in mean of_ghost qs) (cell_at mean d rs) half
 
-  module _ (i j : KeyIndex) (t : Tied mean hashed c rs s i j) (at : place ≡ place_at half.spot) where
+  module _ (i j : KeyIndex) (t : TiedWithin mean hashed c rs s i j) (at : place ≡ place_at half.spot) where
     out : Leaves c node s half
     out = leaves c node s known
 

@@ -1,23 +1,23 @@
 -- A resident named by its place is the one with its key: a use of it, and its leaving.
-use Rattle.std.proofs.Common.{◌≡◌, ℕ, zero, suc, ◌+◌, ◌<◌, ◌≤◌, Bool, true, false, cond, not, ◌||◌, eqb, ◌⊎◌, List, [], ◌∷◌, ◌++◌, map, length, Some, None, filter, Option, sym, refl, ap, ◌∙◌, subst, inl, inr, arith, eq-eqb}
+use Rattle.std.proofs.Common.{◌≡◌, ℕ, zero, suc, ◌+◌, ◌<◌, Bool, true, false, cond, not, ◌||◌, eqb, List, [], ◌∷◌, ◌++◌, map, length, Some, filter, Option, sym, refl, ap, ◌∙◌, subst, inl, inr, arith, eq-eqb}
 use Rattle.std.specs.List.{AllByRecursion as All}
 use Rattle.std.proofs.lemmas.Bool.Decides.{eqb_tells}
 use Rattle.std.proofs.lemmas.List.{map-append}
 use Rattle.machine.specs.Replacement.{Resident, Parts, hit, uses, drops}
-use Rattle.machine.specs.Machine.{Item, Cell, State, same, is_at, cell_of}
+use Rattle.machine.specs.Machine.{same, is_at, cell_of}
 use Rattle.machine_laws.proofs.Carried.{uses_carried, drops_carried, map_kept}
 use Rattle.queues.specs.Held as queues
 use Rattle.handles.specs.Seek.{first_by}
 use Rattle.handle_laws.specs.Runs.{how_many}
 use Rattle.index.specs.declared.index.KeyIndex.{KeyIndex}
-use Rattle.index.specs.Filed.{is_key, bears}
+use Rattle.index.specs.Filed.{bears}
 use Rattle.index.specs.Ties.{occurs, Ties}
-use Rattle.index.proofs.Joined.{Alike, alike_count, alike_kept, counts_none, ties_alike}
+use Rattle.index.proofs.Joined.{Alike, alike_count, alike_kept, counts_none}
 use Rattle.records.specs.declared.column.Column.TheVariants.{Resident as of_resident, Remembered as of_ghost}
 use Rattle.records.specs.declared.record.Record.{Record}
 use Rattle.records.specs.Columns.{word_at}
 use Rattle.cache_core.specs.View.{places, word_in, item_at, cell_at, seen}
-use Rattle.cache_core.specs.Tied.{Tied}
+use Rattle.cache_core.specs.Tied.{TiedWithin}
 use Rattle.cache_core.proofs.Looked.{here}
 use Rattle.cache_core.proofs.Only.{passes, its_word, only}
 use Rattle.cache_core.proofs.Standing.{Orderly}
@@ -83,7 +83,7 @@ resides_there p s some =
     either (occurs p (items s.small)) (occurs p (items s.main)) (queues.has p s.small) (queues.has p s.main)
     (let a = items_append p s.small s.main in omega arith) (has_items p s.small) (has_items p s.main)
 
-module _ {K V : Type 0} (mean : K → List ℕ) (rs : List (Record K V)) (w : List ℕ) (hashed : List ℕ → ℕ) (c : ℕ) (s : Parts ℕ ℕ ℕ) (i j : KeyIndex) (place : ℕ) (t : Tied mean hashed c rs s i j) (o : Orderly c s) (within : (q : ℕ) → 0 < occurs q (places s) → q < length rs) (found : Some place ≡ first_by (bears (word_at mean of_resident rs) w) (places s)) where
+module _ {K V : Type 0} (mean : K → List ℕ) (rs : List (Record K V)) (w : List ℕ) (hashed : List ℕ → ℕ) (c : ℕ) (s : Parts ℕ ℕ ℕ) (i j : KeyIndex) (place : ℕ) (t : TiedWithin mean hashed c rs s i j) (o : Orderly c s) (within : (q : ℕ) → 0 < occurs q (places s) → q < length rs) (found : Some place ≡ first_by (bears (word_at mean of_resident rs) w) (places s)) where
   abbrev lying : ℕ → Option (List ℕ)
   lying = word_at mean of_resident rs
 
@@ -116,7 +116,7 @@ module _ {K V : Type 0} (mean : K → List ℕ) (rs : List (Record K V)) (w : Li
   drops_place d =
       drops_carried (item_at mean d rs) (word_in mean of_ghost rs) (cell_at mean d rs) (λ q. q) cell_of (λ r. refl) (λ _ ps. ps) (λ _ cells. cells) (λ n xs. refl) (λ q. eqb q place) (is_at w) s small_only main_only
 
-  pub drops_tied : (i' : KeyIndex) → Ties hashed lying (others place (places s)) i' → Tied mean hashed c rs (drops (λ _ ps. ps) (λ q. q) (λ q. eqb q place) s) i' j
+  pub drops_tied : (i' : KeyIndex) → Ties hashed lying (others place (places s)) i' → TiedWithin mean hashed c rs (drops (λ _ ps. ps) (λ q. q) (λ q. eqb q place) s) i' j
   drops_tied i' ti =
       record {
         sized = t.sized;
@@ -129,7 +129,7 @@ module _ {K V : Type 0} (mean : K → List ℕ) (rs : List (Record K V)) (w : Li
             omega arith);
       }
 
-pub uses_tied : {K V : Type 0} (mean : K → List ℕ) (hashed : List ℕ → ℕ) (c : ℕ) (rs : List (Record K V)) (s : Parts ℕ ℕ ℕ) (i j : KeyIndex) (at : ℕ → Bool) → Tied mean hashed c rs s i j → Tied mean hashed c rs (uses at s) i j
+pub uses_tied : {K V : Type 0} (mean : K → List ℕ) (hashed : List ℕ → ℕ) (c : ℕ) (rs : List (Record K V)) (s : Parts ℕ ℕ ℕ) (i j : KeyIndex) (at : ℕ → Bool) → TiedWithin mean hashed c rs s i j → TiedWithin mean hashed c rs (uses at s) i j
 uses_tied mean hashed c rs s i j at t =
     record {
       sized = t.sized;

@@ -1,11 +1,11 @@
 -- A newcomer seated with one value and then given another is seated with the other.
-use Rattle.std.proofs.Common.{◌≡◌, ℕ, ◌+◌, ◌<◌, Bool, true, false, cond, List, [], ◌∷◌, ◌++◌, map, sym, refl, ap, ◌∙◌, arith}
+use Rattle.std.proofs.Common.{◌≡◌, ℕ, ◌<◌, Bool, true, false, List, [], ◌∷◌, ◌++◌, map, refl, ap, ◌∙◌, arith}
 use Rattle.std.proofs.lemmas.List.{map-append}
 use Rattle.machine.specs.declared.report.Part.{Part}
 use Rattle.machine.specs.declared.report.Part.TheVariants.{Small, Main}
 use Rattle.machine.specs.Limits.{window}
 use Rattle.machine.specs.Replacement.{Mark, Resident, Parts, Vacated, marked, young, plain, aged, seated_in}
-use Rattle.machine.specs.Machine.{Item, Cell, State, same, is_at, relaid, relaid_if, lays, settled, place_of}
+use Rattle.machine.specs.Machine.{Item, Cell, same, relaid, relaid_if, lays, settled, place_of}
 use Rattle.machine_laws.proofs.Carried.{carry_all, carry_vacated, carry}
 use Rattle.handles.proofs.Meaning.{alike_decides}
 use Rattle.index.specs.Ties.{occurs}

@@ -1,5 +1,5 @@
 -- The place that is vacated for a newcomer: below those opened if it is reused, else the next.
-use Rattle.std.proofs.Common.{◌≡◌, ℕ, ◌+◌, ◌<◌, Bool, true, false, cond, eqb, ◌⊎◌, List, [], ◌∷◌, Some, None, Option, sym, refl, ap, ◌∙◌, inl, inr, arith, eq-eqb}
+use Rattle.std.proofs.Common.{◌≡◌, ℕ, ◌<◌, Bool, false, cond, eqb, List, [], ◌∷◌, Some, None, Option, sym, refl, ap, ◌∙◌, inl, inr, arith, eq-eqb}
 use Rattle.std.proofs.lemmas.Bool.Decides.{eqb_tells}
 use Rattle.machine.specs.declared.report.Part.{Part}
 use Rattle.machine.specs.declared.report.Part.TheVariants.{Small, Main}
@@ -8,7 +8,6 @@ use Rattle.machine.specs.Machine.{Cell, lying}
 use Rattle.machine_laws.proofs.Carried.{carry_spot}
 use Rattle.policy.specs.Insertion.{place_at}
 use Rattle.index.specs.Ties.{occurs}
-use Rattle.index.proofs.Firsts.{not_both}
 use Rattle.cache_core.specs.View.{places}
 use Rattle.cache_core.proofs.Looked.{here}
 use Rattle.cache_core.proofs.Standing.{Orderly}

@@ -1,15 +1,15 @@
 -- In every policy each opened place is a resident's or free, once, and each node below Ghost's limit.
-use Rattle.std.proofs.Common.{◌≡◌, ℕ, zero, suc, ◌+◌, ◌<◌, ◌≤◌, Bool, true, false, cond, eqb, ◌⊎◌, List, [], ◌∷◌, ◌++◌, map, length, sym, refl, ap, ◌∙◌, subst, inl, inr, arith, length-append}
+use Rattle.std.proofs.Common.{◌≡◌, ℕ, ◌+◌, ◌<◌, ◌≤◌, eqb, ◌⊎◌, List, [], ◌∷◌, ◌++◌, map, length, refl, ap, ◌∙◌, inl, inr, arith, length-append}
 use Rattle.std.proofs.lemmas.Bool.{cases_eq, cases_lt}
 use Rattle.std.proofs.lemmas.List.{map-append}
 use Rattle.links.specs.Rows as rows
 use Rattle.links.proofs.Members.{home_is, no_more}
 use Rattle.machine.specs.Limits.{ghost_limit}
-use Rattle.machine.specs.Replacement.{Resident, Parts}
+use Rattle.machine.specs.Replacement.{Parts}
 use Rattle.queues.specs.declared.slots.Slots.{Slots}
 use Rattle.queues.specs.Slots.{list_of, home_in}
 use Rattle.queues.specs.Held.{resident}
-use Rattle.queues.proofs.Sound.{in_list, out_of_list, at_most_once, home_from, home_opened}
+use Rattle.queues.proofs.Sound.{in_list, out_of_list, home_opened}
 use Rattle.policy.specs.declared.policy.Policy.{Policy}
 use Rattle.policy.specs.View.{view}
 use Rattle.handle_laws.proofs.Counting.{how_many_append}

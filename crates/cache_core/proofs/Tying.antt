@@ -1,24 +1,23 @@
 -- The indexes stay tied over an insertion.
-use Rattle.std.proofs.Common.{◌≡◌, ℕ, zero, suc, ◌+◌, ◌-◌, ◌<◌, ◌≤◌, Bool, true, false, cond, not, eqb, ◌⊎◌, List, [], ◌∷◌, ◌++◌, map, length, take, drop, is_some, Some, None, filter, Option, sym, refl, ap, ◌∙◌, subst, inl, inr, arith, eq-eqb}
+use Rattle.std.proofs.Common.{◌≡◌, ℕ, zero, suc, ◌+◌, ◌<◌, ◌≤◌, Bool, true, false, cond, not, eqb, List, [], ◌∷◌, ◌++◌, map, length, is_some, Some, filter, sym, refl, ap, ◌∙◌, subst, inl, inr, arith, eq-eqb}
 use Rattle.std.proofs.lemmas.Bool.Decides.{eqb_tells}
 use Rattle.machine.specs.declared.report.Part.{Part}
 use Rattle.machine.specs.declared.report.Part.TheVariants.{Small, Main}
-use Rattle.machine.specs.Limits.{ghost_limit, window}
-use Rattle.machine.specs.Replacement.{Mark, Resident, Parts, Vacated, marked, plain, young, aged, seated_in, seated}
+use Rattle.machine.specs.Limits.{window}
+use Rattle.machine.specs.Replacement.{Mark, Resident, Parts, Vacated, marked, plain, aged, seated_in, seated}
 use Rattle.handles.proofs.Meaning.{alike_decides}
 use Rattle.handle_laws.specs.Runs.{how_many}
-use Rattle.handle_laws.proofs.Counting.{how_many_append}
 use Rattle.policy.specs.Insertion.{place_at}
 use Rattle.index.specs.declared.index.KeyIndex.{KeyIndex}
 use Rattle.index.specs.Filed.{is_key, bears}
 use Rattle.index.specs.Ties.{occurs, Ties}
-use Rattle.index.proofs.Firsts.{counts_one, not_both}
-use Rattle.index.proofs.Joined.{Alike, alike_count, alike_length, alike_kept, counts_none, same_count, ties_alike, ties_laid}
+use Rattle.index.proofs.Firsts.{counts_one}
+use Rattle.index.proofs.Joined.{Alike, alike_count, alike_length, alike_kept, counts_none, same_count, ties_alike}
 use Rattle.records.specs.declared.column.Column.TheVariants.{Resident as of_resident, Remembered as of_ghost}
 use Rattle.records.specs.declared.record.Record.{Record}
 use Rattle.records.specs.Columns.{word_at}
 use Rattle.cache_core.specs.View.{places}
-use Rattle.cache_core.specs.Tied.{Tied}
+use Rattle.cache_core.specs.Tied.{TiedWithin}
 use Rattle.cache_core.proofs.Looked.{here}
 use Rattle.cache_core.proofs.Standing.{Orderly}
 use Rattle.cache_core.proofs.Leaving.{items, items_append, Leaves, gone, single}
@@ -131,13 +130,13 @@ apart_count false left others old new one less none = omega arith
 module _ {K V : Type 0} (mean : K → List ℕ) (hashed : List ℕ → ℕ) (c node place : ℕ) (s : Parts ℕ ℕ ℕ) (v : Vacated ℕ ℕ ℕ) (l : Leaves c node s v) (at : place ≡ place_at v.spot) where
   pub tied_after :
       (rs rs'' : List (Record K V)) (i j i' j' : KeyIndex) (word : List ℕ) →
-      Tied mean hashed c rs s i j → length rs'' ≡ length rs →
+      TiedWithin mean hashed c rs s i j → length rs'' ≡ length rs →
       how_many (bears (word_at mean of_resident rs) word) (places s) ≡ 0 → how_many (bears (word_at mean of_ghost rs) word) s.remembered ≡ 0 →
       ((q : ℕ) → 0 < occurs q (places v.parts) → word_at mean of_resident rs'' q ≡ word_at mean of_resident rs q) → word_at mean of_resident rs'' place ≡ Some word →
       Ties hashed (word_at mean of_resident rs'') (place ∷ places v.parts) i' →
       Ties hashed (word_at mean of_ghost rs'') v.parts.remembered j' →
       ((x : List ℕ) → how_many (bears (word_at mean of_ghost rs'') x) v.parts.remembered ≤ cond (is_some v.left) (cond (bears (word_at mean of_resident rs) x place) 1 0) 0 + how_many (bears (word_at mean of_ghost rs) x) s.remembered) →
-      Tied mean hashed c rs'' (seated c v place) i' j'
+      TiedWithin mean hashed c rs'' (seated c v place) i' j'
   tied_after rs rs'' i j i' j' word t len no_resident no_ghost same new ti tj ghosts =
       let old = word_at mean of_resident rs in
       let now = word_at mean of_resident rs'' in

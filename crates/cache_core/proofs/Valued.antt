@@ -1,21 +1,20 @@
 -- A value laid in a place changes the resident of the place alone.
-use Rattle.std.proofs.Common.{◌≡◌, ℕ, zero, suc, ◌+◌, ◌<◌, ◌≤◌, Bool, true, false, cond, eqb, ◌⊎◌, List, [], ◌∷◌, ◌++◌, map, length, get_or, set, Some, None, Option, sym, refl, ap, ◌∙◌, subst, inl, inr, le_of_suc-le-suc, arith, eq-eqb}
+use Rattle.std.proofs.Common.{◌≡◌, ℕ, zero, suc, ◌<◌, ◌≤◌, Bool, true, false, cond, eqb, ◌⊎◌, List, [], ◌∷◌, map, length, get_or, set, Some, sym, refl, ap, ◌∙◌, inl, inr, le_of_suc-le-suc, arith}
 use Rattle.std.specs.Option.{option_map}
 use Rattle.std.proofs.lemmas.Bool.Decides.{eqb_tells}
 use Rattle.machine.specs.Replacement.{Resident, Parts}
-use Rattle.machine.specs.Machine.{Item, Cell, State, same, is_at, relaid, relaid_if, lays}
+use Rattle.machine.specs.Machine.{Item, same, is_at, relaid, relaid_if, lays}
 use Rattle.handles.specs.Seek.{first_by}
-use Rattle.handle_laws.specs.Runs.{how_many}
 use Rattle.index.specs.declared.index.KeyIndex.{KeyIndex}
 use Rattle.index.specs.Filed.{is_key, bears}
-use Rattle.index.specs.Ties.{occurs, Ties}
+use Rattle.index.specs.Ties.{occurs}
 use Rattle.index.proofs.Joined.{same_count, ties_laid}
 use Rattle.records.specs.declared.column.Column.{Column}
 use Rattle.records.specs.declared.column.Column.TheVariants.{Resident as of_resident, Remembered as of_ghost}
 use Rattle.records.specs.declared.record.Record.{Record}
 use Rattle.records.specs.Columns.{key_at_lem, word_at}
 use Rattle.cache_core.specs.View.{places, or_empty, value_at, valued, word_in, item_at, cell_at, seen}
-use Rattle.cache_core.specs.Tied.{Tied}
+use Rattle.cache_core.specs.Tied.{TiedWithin}
 use Rattle.cache_core.proofs.Looked.{here}
 use Rattle.cache_core.proofs.Standing.{Orderly}
 use Rattle.cache_core.proofs.Leaving.{items, items_append}
@@ -38,7 +37,7 @@ module _ {K V : Type 0} where
   valued_set (r ∷ rs) zero v d h = refl
   valued_set (r ∷ rs) (suc p) v d h = ap (λ (l : List (Record K V)). r ∷ l) (valued_set rs p v d (le_of_suc-le-suc h))
 
-  valued_length : (rs : List (Record K V)) (p : ℕ) (v : V) → length (valued rs p v) ≡ length rs
+  pub valued_length : (rs : List (Record K V)) (p : ℕ) (v : V) → length (valued rs p v) ≡ length rs
   valued_length [] p v = refl
   valued_length (r ∷ rs) zero v = refl
   valued_length (r ∷ rs) (suc p) v = ap suc (valued_length rs p v)
@@ -68,7 +67,7 @@ module _ {K V : Type 0} where
     word_valued column q = ap (option_map mean) (key_valued column rs place v q)
 
     -- no key changes
-    pub valued_tied : (hashed : List ℕ → ℕ) (c : ℕ) (s : Parts ℕ ℕ ℕ) (i j : KeyIndex) → Tied mean hashed c rs s i j → Tied mean hashed c (valued rs place v) s i j
+    pub valued_tied : (hashed : List ℕ → ℕ) (c : ℕ) (s : Parts ℕ ℕ ℕ) (i j : KeyIndex) → TiedWithin mean hashed c rs s i j → TiedWithin mean hashed c (valued rs place v) s i j
     valued_tied hashed c s i j t =
         record {
           sized = (let z = t.sized in let e = valued_length rs place v in omega arith);
@@ -81,7 +80,7 @@ module _ {K V : Type 0} where
               omega arith);
         }
 
-    module _ (d : V) (w : List ℕ) (hashed : List ℕ → ℕ) (c : ℕ) (s : Parts ℕ ℕ ℕ) (i j : KeyIndex) (t : Tied mean hashed c rs s i j) (o : Orderly c s) (within : (q : ℕ) → 0 < occurs q (places s) → q < length rs) (found : Some place ≡ first_by (bears (word_at mean of_resident rs) w) (places s)) where
+    module _ (d : V) (w : List ℕ) (hashed : List ℕ → ℕ) (c : ℕ) (s : Parts ℕ ℕ ℕ) (i j : KeyIndex) (t : TiedWithin mean hashed c rs s i j) (o : Orderly c s) (within : (q : ℕ) → 0 < occurs q (places s) → q < length rs) (found : Some place ≡ first_by (bears (word_at mean of_resident rs) w) (places s)) where
       abbrev old : ℕ → Item V
       old = item_at mean d rs
 

@@ -9,7 +9,7 @@ use Rattle.records.specs.declared.column.Column.TheVariants.{Resident}
 use Rattle.records.specs.Columns.{word_at}
 use Rattle.cache_core.specs.declared.inner.Inner.{Inner}
 use Rattle.cache_core.specs.View.{places, value_at, bare, rekeyed, state}
-use Rattle.cache_core.specs.Tied.{TiedInner, Resides}
+use Rattle.cache_core.specs.Tied.{TiedInner, Within, Resides}
 
 module _ {K V : Type 0} (mean : K → List ℕ) (hashed : List ℕ → ℕ) where
   -- no resident has this key
@@ -22,10 +22,23 @@ module _ {K V : Type 0} (mean : K → List ℕ) (hashed : List ℕ → ℕ) wher
     -- and with any value laid in the newcomer's place after
     pub settles : (d v : V) → lays word v (state mean d y) ≡ settled x.policy.core.capacity word v (arrival x.policy.core.capacity word (state mean d x))
     pub report : (d : V) → report_of (arrival x.policy.core.capacity word (state mean d x)) ≡ record { place = r.place; joined = r.joined; left = r.vacancy.left; chances = r.vacancy.chances }
+    pub resides : Resides mean hashed word r.place y
+    pub tied : TiedInner mean hashed y
+
+  abbrev pub Admits : Inner K V → ℕ → List ℕ → Option Inserted → Inner K V → Type 0
+  Admits x hash word None y = x.policy.core.capacity ≡ 0
+  Admits x hash word (Some r) y = TiedInner mean hashed x → hash ≡ hashed word → Absent word x → Admitted x word r y
+
+  -- the same with records to spare
+  pub record AdmittedWithin (x : Inner K V) (word : List ℕ) (r : Inserted) (y : Inner K V) : Type 0 where
+    pub next : (d : V) → state mean d y ≡ settled x.policy.core.capacity word (value_at d x.records.now r.place) (arrival x.policy.core.capacity word (state mean d x))
+    -- and with any value laid in the newcomer's place after
+    pub settles : (d v : V) → lays word v (state mean d y) ≡ settled x.policy.core.capacity word v (arrival x.policy.core.capacity word (state mean d x))
+    pub report : (d : V) → report_of (arrival x.policy.core.capacity word (state mean d x)) ≡ record { place = r.place; joined = r.joined; left = r.vacancy.left; chances = r.vacancy.chances }
     -- what a claim finds in the place: the given value if it was never opened, else what lies there
     pub lies : (d given : V) → lying given (arrival x.policy.core.capacity word (state mean d x)).spot ≡ cond (r.place == (view x.policy.core).opened) given (value_at d x.records.now r.place)
     pub resides : Resides mean hashed word r.place y
-    pub tied : TiedInner mean hashed y
+    pub within : Within mean hashed y
 
   -- the key lies in the newcomer's place; no value has changed, nor any other key but those that Ghost remembers
   abbrev pub LaidIn : Inner K V → K → Inserted → Inner K V → Type 0
@@ -34,8 +47,9 @@ module _ {K V : Type 0} (mean : K → List ℕ) (hashed : List ℕ → ℕ) wher
   abbrev pub Unchanged : Inner K V → Inner K V → Type 0
   Unchanged x y = (y.records.now ≡ x.records.now) × (y.policy ≡ x.policy) × (y.residents ≡ x.residents) × (y.remembered ≡ x.remembered)
 
-  abbrev pub Admits : Inner K V → ℕ → K → Option Inserted → Inner K V → Type 0
-  Admits x hash key None y = (x.policy.core.capacity ≡ 0) × Unchanged x y
-  Admits x hash key (Some r) y =
+  -- nothing changes at capacity 0; else a newcomer is brought in
+  abbrev pub AdmitsWithin : Inner K V → ℕ → K → Option Inserted → Inner K V → Type 0
+  AdmitsWithin x hash key None y = (x.policy.core.capacity ≡ 0) × Unchanged x y
+  AdmitsWithin x hash key (Some r) y =
       (1 ≤ x.policy.core.capacity)
-      × ((y.policy.core.capacity ≡ x.policy.core.capacity) × (TiedInner mean hashed x → hash ≡ hashed (mean key) → Absent (mean key) x → Admitted x (mean key) r y × LaidIn x key r y))
+      × ((y.policy.core.capacity ≡ x.policy.core.capacity) × (Within mean hashed x → hash ≡ hashed (mean key) → Absent (mean key) x → AdmittedWithin x (mean key) r y × LaidIn x key r y))

@@ -4,7 +4,7 @@ use Rattle.machine.specs.declared.report.Part.{Part}
 use Rattle.index.specs.declared.index.KeyIndex.{KeyIndex}
 use Rattle.index.specs.Ties.{Ties}
 use Rattle.ghosts.specs.declared.noted.Noted.{Noted}
-use Rattle.records.specs.declared.column.Column.TheVariants.{Resident, Remembered}
+use Rattle.records.specs.declared.column.Column.TheVariants.{Resident}
 use Rattle.records.specs.declared.record.Record.{Record}
 use Rattle.records.specs.Columns.{word_at}
 use Rattle.cache_core.specs.declared.inner.Inner.{Inner}

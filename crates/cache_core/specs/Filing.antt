@@ -1,5 +1,5 @@
 -- What the steps of an insertion do to the indexes and the records, where the indexes are tied.
-use Rattle.std.specs.Prelude.{◌≡◌, ℕ, ◌<◌, true, cond, not, List, ◌∷◌, length, is_some, Some, None, filter, Option, ◌==◌}
+use Rattle.std.specs.Prelude.{◌≡◌, ℕ, ◌<◌, true, cond, not, List, ◌∷◌, length, is_some, Some, filter, Option, ◌==◌}
 use Rattle.std.specs.Option.{option_map}
 use Rattle.handle_laws.specs.Runs.{how_many}
 use Rattle.index.specs.declared.index.KeyIndex.{KeyIndex}

@@ -15,13 +15,23 @@ use Rattle.cache_core.specs.View.{places}
 
 module _ {K V : Type 0} (mean : K → List ℕ) (hashed : List ℕ → ℕ) where
   pub record Tied (c : ℕ) (rs : List (Record K V)) (s : Parts ℕ ℕ ℕ) (i j : KeyIndex) : Type 0 where
-    pub sized : c ≤ length rs
+    pub sized : c ≡ length rs
     pub residents : Ties hashed (word_at mean Resident rs) (places s) i
     pub remembered : Ties hashed (word_at mean Remembered rs) s.remembered j
     pub alone : (word : List ℕ) → how_many (bears (word_at mean Resident rs) word) (places s) + how_many (bears (word_at mean Remembered rs) word) s.remembered ≤ 1
 
   abbrev pub TiedInner : Inner K V → Type 0
   TiedInner x = Tied x.policy.core.capacity x.records.now (view x.policy.core) x.residents x.remembered
+
+  -- the same with records to spare, as a table has that is too long for a cache
+  pub record TiedWithin (c : ℕ) (rs : List (Record K V)) (s : Parts ℕ ℕ ℕ) (i j : KeyIndex) : Type 0 where
+    pub sized : c ≤ length rs
+    pub residents : Ties hashed (word_at mean Resident rs) (places s) i
+    pub remembered : Ties hashed (word_at mean Remembered rs) s.remembered j
+    pub alone : (word : List ℕ) → how_many (bears (word_at mean Resident rs) word) (places s) + how_many (bears (word_at mean Remembered rs) word) s.remembered ≤ 1
+
+  abbrev pub Within : Inner K V → Type 0
+  Within x = TiedWithin x.policy.core.capacity x.records.now (view x.policy.core) x.residents x.remembered
 
   -- the resident of this place has this key
   abbrev pub Resides : List ℕ → ℕ → Inner K V → Type 0
@@ -30,6 +40,9 @@ module _ {K V : Type 0} (mean : K → List ℕ) (hashed : List ℕ → ℕ) wher
   -- the indexes are right, and Ghost does not remember the word
   abbrev pub Forgotten : List ℕ → Inner K V → Type 0
   Forgotten word x = TiedInner x × (how_many (bears (word_at mean Remembered x.records.now) word) (view x.policy.core).remembered ≡ 0)
+
+  abbrev pub ForgottenWithin : List ℕ → Inner K V → Type 0
+  ForgottenWithin word x = Within x × (how_many (bears (word_at mean Remembered x.records.now) word) (view x.policy.core).remembered ≡ 0)
 
 -- all but Ghost and its index is as it was
 abbrev pub OnlyGhost : {K V : Type 0} → Inner K V → Inner K V → Type 0

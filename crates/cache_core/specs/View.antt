@@ -1,6 +1,6 @@
 -- The plain machine's state, read off the policy's places and nodes and what the records hold there.
 use Rattle.std.specs.Prelude.{ℕ, zero, suc, List, [], ◌∷◌, ◌++◌, map, Some, None, Option}
-use Rattle.machine.specs.Replacement.{Resident, Parts}
+use Rattle.machine.specs.Replacement.{Parts}
 use Rattle.machine.specs.Machine.{Item, Cell, State}
 use Rattle.policy.specs.View.{view}
 use Rattle.records.specs.declared.column.Column.{Column}

@@ -1,4 +1,4 @@
-ghost use Rattle.cache_core.specs.Admitting.{Admits};
+ghost use Rattle.cache_core.specs.Admitting.{Admits, AdmitsWithin};
 
 use crate::departing::depart;
 use crate::filing::seat_key;
@@ -13,7 +13,8 @@ pub fn admit<K: HashedKey, V: Copy>(
     hash: u64,
     key: K,
 ) -> Option<Inserted>
-    ensures { Admits K.Key.meaning K.HashedKey.hashed inner.old hash key result inner.new }
+    ensures admits { Admits K.Key.meaning K.HashedKey.hashed inner.old hash (K.Key.meaning key) result inner.new }
+    ensures within { AdmitsWithin K.Key.meaning K.HashedKey.hashed inner.old hash key result inner.new }
 {
     if inner.policy.capacity() == 0 {
         return None;

@@ -1,4 +1,5 @@
 //! What a cache is made of: the lent records, the policy over their places, and an index for each column of keys.
+#![tactic(auto)]
 
 mod admission;
 mod clearing;

@@ -1,7 +1,7 @@
 ghost use Rattle.std.specs.Prelude.{◌≡◌, ℕ, List};
 ghost use Rattle.machine.specs.Machine.{lays};
 ghost use Rattle.cache_core.specs.View.{valued, state};
-ghost use Rattle.cache_core.specs.Tied.{TiedInner, Resides};
+ghost use Rattle.cache_core.specs.Tied.{TiedInner, Within, Resides};
 
 use crate::inner::Inner;
 use keys::kind::HashedKey;
@@ -21,8 +21,9 @@ fn lay_value<K: Copy, V: Copy>(records: &mut [Record<K, V>], place: u16, value: 
 pub fn set_value<K: HashedKey, V: Copy>(inner: &mut Inner<'_, K, V>, place: u16, value: V)
     ensures policy { inner.new.policy ≡ inner.old.policy }
     ensures records { inner.new.records.now ≡ valued inner.old.records.now place value }
-    ensures lays { (d : V) (word : List ℕ) → TiedInner K.Key.meaning K.HashedKey.hashed inner.old → Resides K.Key.meaning K.HashedKey.hashed word place inner.old → state K.Key.meaning d inner.new ≡ lays word value (state K.Key.meaning d inner.old) }
+    ensures lays { (d : V) (word : List ℕ) → Within K.Key.meaning K.HashedKey.hashed inner.old → Resides K.Key.meaning K.HashedKey.hashed word place inner.old → state K.Key.meaning d inner.new ≡ lays word value (state K.Key.meaning d inner.old) }
     ensures tied { TiedInner K.Key.meaning K.HashedKey.hashed inner.old → TiedInner K.Key.meaning K.HashedKey.hashed inner.new }
+    ensures within { Within K.Key.meaning K.HashedKey.hashed inner.old → Within K.Key.meaning K.HashedKey.hashed inner.new }
 {
     lay_value(inner.records, place, value);
 }

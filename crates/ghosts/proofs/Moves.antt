@@ -1,15 +1,14 @@
 -- A node goes to the front of the remembered or of the spare.
-use Rattle.std.proofs.Common.{◌≡◌, ℕ, zero, suc, ◌+◌, ◌-◌, ◌<◌, ◌≤◌, Bool, true, false, cond, not, eqb, ltb, leb, List, [], ◌∷◌, ◌++◌, length, take, Some, None, sym, refl, ap, ◌∙◌, subst, inl, inr, arith}
+use Rattle.std.proofs.Common.{◌≡◌, ℕ, zero, suc, ◌+◌, ◌<◌, ◌≤◌, Bool, true, false, List, [], ◌∷◌, ◌++◌, length, take, Some, None, sym, refl, ap, ◌∙◌, inl, inr, arith}
 use Rattle.std.proofs.lemmas.List.{take_all, take_at, length-append}
 use Rattle.std.proofs.lemmas.Bool.{cases_eq, cases_lt, lt-ltb, ne_eqb, le-leb, lt-leb}
 use Rattle.links.specs.declared.line.Line.{Line}
 use Rattle.links.specs.Lists.{lists, home_of, rehomed}
-use Rattle.links.specs.Rows.{occurs, without, fronted, pushed_front, nth, first_of, last_of, last_or}
+use Rattle.links.specs.Rows.{occurs, without, fronted, pushed_front, nth, first_of, last_of}
 use Rattle.links.proofs.Counts.{occurs_same, occurs_append, length_without, without_absent, without_last}
-use Rattle.links.proofs.Members.{stands, lacks, home_is, no_more, low_node}
-use Rattle.links.proofs.Ends.{Split, split_last, Begins, split_first, no_first}
+use Rattle.links.proofs.Members.{stands, lacks, home_is, no_more}
+use Rattle.links.proofs.Ends.{split_last, split_first, no_first}
 use Rattle.ghosts.specs.declared.notes.Notes.{Notes}
-use Rattle.ghosts.specs.declared.noted.Noted.{Noted}
 use Rattle.ghosts.specs.Notes.{note_list, Counted, Unopened, Within}
 use Rattle.ghosts.specs.Remembered.{Pushed, holds_node}
 
@@ -18,7 +17,7 @@ relinked n l opened = record { line = l; opened = opened; capacity = n.capacity 
 
 -- what the ghost fields say
 abbrev pub Ghosts : Notes → Type 0
-Ghosts n = Counted n × (Unopened n × (Within n × Unit {0}))
+Ghosts n = record { counted : Counted n; unopened : Unopened n; within : Within n }
 
 module _ (n : Notes) (counted : Counted n) (unopened : Unopened n) (within : Within n) (l : Line) (p : ℕ) where
   module _ (k : ℕ) (two : k < 2) (low : p < 512) (to : lists l ≡ fronted p k (lists n.line)) (homes : (q : ℕ) → home_of l q ≡ rehomed p k (home_of n.line) q) where
@@ -50,7 +49,7 @@ module _ (n : Notes) (counted : Counted n) (unopened : Unopened n) (within : Wit
         ] in
         let a = longer in
         let opened : p < n.opened = elim (cases_lt p n.opened) [ inl i ↦ i | inr i ↦ let u = unopened p i in absurd (omega arith) ] in
-        (omega arith, ((λ q i. let u = unopened q i in let o = others q (λ e. omega arith) in omega arith), (within, tt)))
+        record { counted = omega arith; unopened = λ q i. let u = unopened q i in let o = others q (λ e. omega arith) in omega arith; within = within }
 
     -- the next node is opened
     pub fresh : p ≡ n.opened → n.opened < n.capacity → Ghosts (relinked n l (n.opened + 1))
@@ -59,7 +58,7 @@ module _ (n : Notes) (counted : Counted n) (unopened : Unopened n) (within : Wit
         let a = lacks n.line p 0 (omega arith) (λ i. omega arith) in
         let b = lacks n.line p 1 (omega arith) (λ i. omega arith) in
         let c = longer in
-        (omega arith, ((λ q i. let u = unopened q (omega arith) in let o = others q (λ j. omega arith) in omega arith), ((omega arith, within.1), tt)))
+        record { counted = omega arith; unopened = λ q i. let u = unopened q (omega arith) in let o = others q (λ j. omega arith) in omega arith; within = (omega arith, within.1) }
 
   module _ (low : p < 512) (to : lists l ≡ fronted p 0 (lists n.line)) where
     newest : nth 0 (lists l) ≡ p ∷ without p (note_list 0 n)

@@ -1,5 +1,5 @@
 -- The lists of the nodes that remember a key, and of those that are spare.
-use Rattle.std.specs.Prelude.{◌≡◌, ℕ, ◌+◌, ◌<◌, ◌≤◌, List, length}
+use Rattle.std.specs.Prelude.{◌≡◌, ℕ, ◌+◌, ◌≤◌, List, length}
 use Rattle.links.specs.Lists.{lists, home_of}
 use Rattle.links.specs.Rows.{nth}
 use Rattle.ghosts.specs.declared.notes.Notes.{Notes}

@@ -1,5 +1,5 @@
 -- What Ghost remembers: its nodes, newest first.
-use Rattle.std.specs.Prelude.{◌≡◌, ℕ, ◌≤◌, Bool, cond, not, List, ◌∷◌, length, take, ◌==◌, nat_le}
+use Rattle.std.specs.Prelude.{◌≡◌, ℕ, Bool, cond, not, List, ◌∷◌, length, take, ◌==◌, nat_le}
 use Rattle.links.specs.Rows.{occurs}
 use Rattle.ghosts.specs.declared.queue.GhostQueue.{GhostQueue}
 use Rattle.ghosts.specs.declared.noted.Noted.{Noted}

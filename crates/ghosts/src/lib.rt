@@ -1,4 +1,5 @@
 //! Ghost: which of its nodes remember a key, newest first. The keys lie with the caller.
+#![tactic(auto)]
 
 mod history;
 pub mod noted;

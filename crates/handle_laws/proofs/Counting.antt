@@ -1,11 +1,11 @@
 -- The candidates of a hash, counted by meaning, are the entries with its home and fingerprint.
-use Rattle.std.proofs.Common.{◌≡◌, ℕ, zero, suc, ◌+◌, ◌-◌, ◌*◌, ◌/◌, ◌%◌, ◌<◌, ◌≤◌, Bool, true, false, cond, ◌&&◌, eqb, leb, ◌⊎◌, List, [], ◌∷◌, ◌++◌, length, get_or, sym, refl, ap, ◌∙◌, subst, inl, inr, le_of_suc-le-suc, mod-lt, mod-eq_of_lt, arith, eq-eqb}
+use Rattle.std.proofs.Common.{◌≡◌, ℕ, zero, suc, ◌+◌, ◌-◌, ◌/◌, ◌%◌, ◌<◌, ◌≤◌, Bool, true, false, cond, ◌&&◌, eqb, List, [], ◌∷◌, ◌++◌, length, get_or, sym, refl, ap, ◌∙◌, subst, inl, inr, le_of_suc-le-suc, mod-lt, mod-eq_of_lt, arith, eq-eqb}
 use native.Mathlib.Nat.{mod-mod, mod-add-mod, add-mod_right}
 use Rattle.std.proofs.lemmas.Bool.Decides.{leb_tells, eqb_tells}
 use Rattle.std.proofs.lemmas.Bool.{cases_eq}
 use Rattle.handles.specs.Meaning.{alike}
-use Rattle.handles.specs.Slots.{rank, rank_of, meta_of, occupied, empty, weight, weigh_from, weigh, meta_at, home_of}
-use Rattle.handles.specs.Seek.{candidates_from, pick}
+use Rattle.handles.specs.Slots.{rank, rank_of, meta_of, empty, weight, weigh_from, meta_at, home_of}
+use Rattle.handles.specs.Seek.{candidates_from}
 use Rattle.handles.specs.declared.slot.Slot.{Slot}
 use Rattle.handles.proofs.Ring.{apart}
 use Rattle.handles.proofs.Ranks.{meta_get_d}

@@ -1,15 +1,15 @@
 -- The laws over lists of calls.
-use Rattle.std.proofs.Common.{◌≡◌, ℕ, zero, suc, ◌+◌, ◌%◌, ◌<◌, ◌≤◌, Bool, true, false, cond, ◌&&◌, eqb, ltb, leb, ◌⊎◌, List, [], ◌∷◌, ◌++◌, map, length, is_some, Some, None, Option, sym, refl, ap, ◌∙◌, subst, inl, inr, arith, eq-eqb}
+use Rattle.std.proofs.Common.{◌≡◌, ℕ, ◌%◌, ◌<◌, Bool, true, false, cond, ◌&&◌, eqb, ltb, ◌⊎◌, List, [], ◌∷◌, ◌++◌, map, length, is_some, Some, None, Option, sym, refl, ap, ◌∙◌, subst, inl, inr, arith, eq-eqb}
 use Rattle.std.proofs.lemmas.Bool.Decides.{leb_tells}
 use Rattle.handles.specs.Meaning.{alike}
 use Rattle.handles.specs.Slots.{room, occupied, fingerprint}
 use Rattle.handles.specs.Shift.{cleared}
-use Rattle.handles.specs.Seek.{candidates, first_by}
-use Rattle.handles.specs.Calls.{sought, roomy, reserve_answer_lem, did_rebuild}
+use Rattle.handles.specs.Seek.{first_by}
+use Rattle.handles.specs.Calls.{sought, reserve_answer_lem, did_rebuild}
 use Rattle.handles.specs.declared.slot.Slot.{Slot}
 use Rattle.handles.proofs.Meaning.{alike_decides}
-use Rattle.handles.proofs.Calling.{and_left, and_right}
-use Rattle.handle_laws.specs.Runs.{Call, insert, remove, clear, reserve, Entry, Held, slots_after, held_after, held_step, step, rebuilds, fits_entry, same_spot, drop_first, how_many, times_in, times_read, ReadsWhatIsIn, AnswersWhatIsIn, StaysFindable, Spares, AllSpare}
+use Rattle.handles.proofs.Calling.{and_right}
+use Rattle.handle_laws.specs.Runs.{Call, insert, remove, clear, reserve, Entry, Held, slots_after, held_after, held_step, step, rebuilds, fits_entry, same_spot, drop_first, how_many, ReadsWhatIsIn, AnswersWhatIsIn, StaysFindable, Spares, AllSpare}
 use Rattle.handle_laws.proofs.Totals.{moved, first_none, first_some}
 use Rattle.handle_laws.proofs.Running.{Good, good_reads, good_insert, good_remove, good_clear, good_reserve_at, good_none, good_some, rebuilds_room}
 

@@ -1,21 +1,21 @@
 -- After every list of calls the slots are sound and hold, in every weighing by meaning, what is in by the calls.
-use Rattle.std.proofs.Common.{◌≡◌, ℕ, zero, suc, ◌+◌, ◌-◌, ◌%◌, ◌<◌, ◌≤◌, Bool, true, false, cond, ◌&&◌, eqb, ltb, leb, ◌⊎◌, List, [], ◌∷◌, map, length, is_some, Some, None, Ok, Err, Option, sym, refl, ap, ◌∙◌, subst, inl, inr, mod-lt, arith}
+use Rattle.std.proofs.Common.{◌≡◌, ℕ, suc, ◌+◌, ◌-◌, ◌%◌, ◌<◌, ◌≤◌, Bool, true, false, cond, eqb, ltb, leb, List, [], ◌∷◌, map, length, Some, None, Ok, Err, Option, sym, refl, ap, ◌∙◌, subst, inl, inr, mod-lt, arith}
 use Rattle.std.proofs.lemmas.List.{length-map}
 use Rattle.std.proofs.lemmas.Bool.Decides.{leb_tells}
 use Rattle.handles.specs.Meaning.{alike}
 use Rattle.handles.specs.Slots.{Sound, room, allowed, occupied, weigh, weigh_from, fingerprint, empty}
 use Rattle.handles.specs.Shift.{inserted, cleared, erased}
-use Rattle.handles.specs.Seek.{candidates, candidates_from, first_by}
+use Rattle.handles.specs.Seek.{candidates, first_by}
 use Rattle.handles.specs.Calls.{insertion, removal, sought, taken_out, roomy, rebuilt, reserve_answer_lem, did_rebuild}
 use Rattle.handles.specs.declared.slot.Slot.{Slot}
 use Rattle.handles.specs.declared.refusal.Reserved.TheVariants.{Room, Rebuilt}
 use Rattle.handles.specs.declared.refusal.TableRefusal.TheVariants.{SlotCount, TooFewSlots}
 use Rattle.handles.proofs.Pushing.{Ring, ring_pos}
-use Rattle.handles.proofs.Placing.{print_below, sound_ring, sound_some, roomy_ring, inserted_sound, inserted_length, inserted_weighs, erased_sound, erased_length, cleared_sound, cleared_weighs, cleared_occupied}
+use Rattle.handles.proofs.Placing.{print_below, sound_ring, sound_some, roomy_ring, inserted_sound, inserted_length, inserted_weighs, erased_sound, erased_length, cleared_sound, cleared_weighs}
 use Rattle.handles.proofs.Candidates.{first_is, handle_at}
 use Rattle.handles.proofs.Calling.{found_at, remove_weighs, sought_empty, roomy_says}
 use Rattle.handles.proofs.Reading.{empty_candidates}
-use Rattle.handle_laws.specs.Runs.{Call, insert, remove, clear, reserve, Entry, Held, step, held_step, slots_after, held_after, rebuilds, fits_entry, drop_first, how_many, times_in, times_read}
+use Rattle.handle_laws.specs.Runs.{Entry, fits_entry, drop_first, how_many, times_read}
 use Rattle.handle_laws.proofs.Counting.{count_all}
 use Rattle.handle_laws.proofs.Totals.{total, total_times, total_drop, total_moved, moved, drop_none, drop_length, first_none, first_some, spot_of}
 

@@ -1,12 +1,11 @@
 -- Weighing what is in by the calls: one entry put in, one taken out, all under new hashes.
-use Rattle.std.proofs.Common.{◌≡◌, ℕ, zero, suc, ◌+◌, ◌-◌, ◌%◌, ◌<◌, ◌≤◌, Bool, true, false, cond, ◌&&◌, eqb, ◌⊎◌, List, [], ◌∷◌, map, length, Some, None, Option, sym, refl, ap, ◌∙◌, inl, inr, arith}
-use Rattle.std.proofs.lemmas.Bool.{cases_Bool}
+use Rattle.std.proofs.Common.{◌≡◌, ℕ, suc, ◌+◌, ◌%◌, ◌<◌, Bool, true, false, cond, ◌&&◌, eqb, List, [], ◌∷◌, map, length, Some, None, refl, ap, ◌∙◌, arith}
 use Rattle.handles.specs.Meaning.{alike}
 use Rattle.handles.specs.Slots.{fingerprint}
 use Rattle.handles.specs.Seek.{first_by}
 use Rattle.handles.proofs.Meaning.{alike_decides}
 use Rattle.handles.proofs.Calling.{and_left, and_right, eqb_is}
-use Rattle.handle_laws.specs.Runs.{Entry, Held, fits_entry, same_spot, drop_first, how_many, times_in}
+use Rattle.handle_laws.specs.Runs.{Entry, fits_entry, same_spot, drop_first, how_many}
 use Rattle.handle_laws.proofs.Counting.{one}
 
 -- the weight 1 of a home, a fingerprint and a meaning

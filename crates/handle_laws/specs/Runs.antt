@@ -1,5 +1,5 @@
 -- Lists of calls on an opened table: the slots that they leave, and what is in, counted from the calls.
-use Rattle.std.specs.Prelude.{◌≡◌, ℕ, ◌+◌, ◌%◌, ◌<◌, Bool, true, false, cond, ◌&&◌, List, [], ◌∷◌, ◌++◌, map, length, is_some, ◌==◌, nat_lt}
+use Rattle.std.specs.Prelude.{◌≡◌, ℕ, ◌+◌, ◌%◌, ◌<◌, Bool, true, cond, ◌&&◌, List, [], ◌∷◌, ◌++◌, map, length, is_some, ◌==◌, nat_lt}
 use Rattle.handles.specs.Meaning.{alike}
 use Rattle.handles.specs.Slots.{room, occupied, fingerprint}
 use Rattle.handles.specs.Shift.{cleared}

@@ -1,4 +1,5 @@
 //! The laws of the handle table over lists of calls, on the contracts of two calls that read a table.
+#![tactic(auto)]
 
 ghost use Rattle.std.specs.Prelude.{◌≡◌, ℕ, true, List, ◌∷◌, ◌++◌, length, nat_lt};
 ghost use Rattle.handles.specs.Calls.{roomy};

@@ -1,20 +1,20 @@
 -- What an insertion and a removal answer and leave, from what the code did.
-use Rattle.std.proofs.Common.{◌≡◌, ℕ, zero, suc, ◌+◌, ◌-◌, ◌*◌, ◌/◌, ◌%◌, ◌<◌, ◌≤◌, Bool, true, false, cond, ◌&&◌, eqb, ltb, ◌⊎◌, List, [], ◌∷◌, length, get_or, is_some, Some, None, Ok, Err, Option, Result, sym, refl, ap, ◌∙◌, subst, inl, inr, mod-lt, arith}
+use Rattle.std.proofs.Common.{◌≡◌, ℕ, suc, ◌+◌, ◌-◌, ◌/◌, ◌%◌, ◌<◌, ◌≤◌, Bool, true, false, cond, ◌&&◌, eqb, List, length, get_or, is_some, Some, None, Ok, Err, Option, sym, refl, ap, ◌∙◌, subst, inl, inr, mod-lt, arith}
 use native.Mathlib.Nat.{mod-mod}
 use Rattle.std.proofs.lemmas.Bool.Decides.{leb_tells, eqb_tells}
 use Rattle.std.proofs.lemmas.Bool.{cases_eq}
 use Rattle.handles.specs.Meaning.{alike}
-use Rattle.handles.specs.Slots.{rank, rank_of, meta_of, occupied, room, allowed, Sound, fingerprint, meta_at, weigh, weight, home_of, empty}
+use Rattle.handles.specs.Slots.{rank, rank_of, occupied, room, Sound, fingerprint, meta_at, weigh, weight, home_of, empty}
 use Rattle.handles.specs.Shift.{inserted, erased, pulled, away}
-use Rattle.handles.specs.Seek.{seek_from, seek}
-use Rattle.handles.specs.Calls.{Inserts, Removes, roomy, insertion, sought, removal, taken_out}
+use Rattle.handles.specs.Seek.{seek_from}
+use Rattle.handles.specs.Calls.{Inserts, Removes, roomy, sought, taken_out}
 use Rattle.handles.specs.declared.slot.Slot.{Slot}
 use Rattle.handles.specs.declared.refusal.TableRefusal.TheVariants.{Full}
 use Rattle.handles.proofs.Meaning.{alike_decides}
 use Rattle.handles.proofs.Ring.{round}
-use Rattle.handles.proofs.Ranks.{rank_same, meta_get_d}
+use Rattle.handles.proofs.Ranks.{rank_same}
 use Rattle.handles.proofs.Weighing.{weight_full}
-use Rattle.handles.proofs.Seeking.{hits, seek_stop}
+use Rattle.handles.proofs.Seeking.{seek_stop}
 use Rattle.handles.proofs.Candidates.{Found, seek_found}
 use Rattle.handles.proofs.Pushing.{Ring, ring_pos}
 use Rattle.handles.proofs.Pulling.{away_same, pulled_same}

@@ -1,9 +1,8 @@
 -- A search finds the first candidate that passes its test, and the reader's candidates come one by one from such searches.
-use Rattle.std.proofs.Common.{◌≡◌, ℕ, zero, suc, ◌+◌, ◌-◌, ◌*◌, ◌%◌, ◌<◌, ◌≤◌, Bool, true, false, cond, ◌&&◌, eqb, leb, ◌⊎◌, List, [], ◌∷◌, ◌++◌, length, get_or, Some, None, Option, sym, refl, ap, ◌∙◌, subst, inl, inr, le_of_suc-le-suc, mod-lt, arith}
+use Rattle.std.proofs.Common.{◌≡◌, ℕ, zero, suc, ◌+◌, ◌-◌, ◌%◌, ◌<◌, ◌≤◌, Bool, true, false, cond, ◌&&◌, eqb, List, [], ◌∷◌, ◌++◌, length, get_or, Some, None, Option, sym, refl, ap, ◌∙◌, subst, inl, inr, le_of_suc-le-suc, mod-lt, arith}
 use Rattle.std.proofs.lemmas.Bool.Decides.{leb_tells}
-use Rattle.std.proofs.lemmas.Bool.{cases_Bool}
 use Rattle.handles.specs.Slots.{rank, meta_at}
-use Rattle.handles.specs.Seek.{seek_from, test_at, pick, candidates_from, first_by}
+use Rattle.handles.specs.Seek.{seek_from, pick, candidates_from, first_by}
 use Rattle.handles.specs.declared.slot.Slot.{Slot}
 use Rattle.handles.proofs.Seeking.{test_read, hits, seek_stop, seek_pass}
 

@@ -1,18 +1,17 @@
 -- Insertion where the walk stops keeps a table sound and adds one entry; removal takes one away.
-use Rattle.std.proofs.Common.{◌≡◌, ℕ, zero, suc, ◌+◌, ◌-◌, ◌*◌, ◌/◌, ◌%◌, ◌^◌, ◌<◌, ◌≤◌, Bool, true, false, cond, eqb, ◌⊎◌, List, [], ◌∷◌, map, length, get_or, set, replicate, sym, refl, ap, ◌∙◌, subst, inl, inr, mod-lt, mod-eq_of_lt, arith}
+use Rattle.std.proofs.Common.{◌≡◌, ℕ, zero, suc, ◌+◌, ◌-◌, ◌*◌, ◌/◌, ◌%◌, ◌^◌, ◌<◌, ◌≤◌, true, cond, eqb, List, [], ◌∷◌, length, get_or, replicate, sym, refl, ap, ◌∙◌, subst, inl, inr, mod-lt, mod-eq_of_lt, arith}
 use native.Mathlib.Nat.{add-mod_right, mod-mod}
 use Rattle.std.proofs.lemmas.Bool.{cases_eq}
-use Rattle.std.proofs.lemmas.List.{length-map}
 use Rattle.handles.specs.Slots.{rank, rank_of, meta_of, occupied, Local, Sound, allowed, room, empty, weigh_from, weigh, weight, meta_at, fingerprint, home_of}
 use Rattle.handles.specs.Walk.{stop}
 use Rattle.handles.specs.Carry.{Carries}
-use Rattle.handles.specs.Shift.{run, pushed, inserted, erased, pulled, away, cleared, vacated}
+use Rattle.handles.specs.Shift.{run, pushed, inserted, erased, away, cleared}
 use Rattle.handles.specs.declared.slot.Slot.{Slot}
-use Rattle.handles.proofs.Ring.{small, back, room_below, roomy_allowed, power}
+use Rattle.handles.proofs.Ring.{small, back, room_below, roomy_allowed}
 use Rattle.handles.proofs.Ranks.{rank_same, meta_get_d}
 use Rattle.handles.proofs.Vacancy.{rank_pos, rank_empty}
 use Rattle.handles.proofs.Weighing.{weight_full}
-use Rattle.handles.proofs.Walking.{Passed, stops, passed_short}
+use Rattle.handles.proofs.Walking.{stops, passed_short}
 use Rattle.handles.proofs.Pushing.{Ring, ring_made, ring_pos, pushed_local, pushed_length, pushed_weighs, pushed_same, run_same, carries_same}
 use Rattle.handles.proofs.Pulling.{pulled_local, pulled_length, pulled_weighs}
 

@@ -1,5 +1,5 @@
 -- The run moved back: each write keeps the table sound, the run ends at an entry at home or an empty slot, and one entry is lost.
-use Rattle.std.proofs.Common.{◌≡◌, ℕ, zero, suc, ◌+◌, ◌-◌, ◌/◌, ◌%◌, ◌^◌, ◌<◌, ◌≤◌, Bool, true, false, cond, leb, ◌⊎◌, List, length, get_or, set, sym, refl, ap, ◌∙◌, subst, inl, inr, mod-lt, mod-eq_of_lt, arith, length-set}
+use Rattle.std.proofs.Common.{◌≡◌, ℕ, zero, suc, ◌+◌, ◌-◌, ◌/◌, ◌%◌, ◌<◌, ◌≤◌, cond, leb, List, length, get_or, set, sym, refl, ap, ◌∙◌, subst, inl, inr, mod-lt, mod-eq_of_lt, arith, length-set}
 use native.Mathlib.Nat.{mod-mod, add-mod_right}
 use Rattle.std.proofs.lemmas.Bool.Decides.{leb_tells}
 use Rattle.std.proofs.lemmas.Bool.{cases_eq}
@@ -8,9 +8,9 @@ use Rattle.handles.specs.Slots.{rank, rank_of, meta_of, occupied, Local, empty, 
 use Rattle.handles.specs.Shift.{away_from, away, pulled, nearer, vacated}
 use Rattle.handles.specs.declared.slot.Slot.{Slot}
 use Rattle.handles.proofs.Least.{least}
-use Rattle.handles.proofs.Ring.{round, back, apart}
-use Rattle.handles.proofs.Ranks.{rank_same, rank_set_same, rank_set_other, local_set, meta_get_d}
-use Rattle.handles.proofs.Vacancy.{gap_from, full, full_one, rank_pos, rank_empty, empty_rank}
+use Rattle.handles.proofs.Ring.{round, apart}
+use Rattle.handles.proofs.Ranks.{rank_same, rank_set_other, local_set, meta_get_d}
+use Rattle.handles.proofs.Vacancy.{gap_from, full_one, rank_pos, rank_empty}
 use Rattle.handles.proofs.Weighing.{weigh_set, occupied_set, weight_nearer, weight_empty}
 use Rattle.handles.proofs.Pushing.{Ring, ring_pos, ring_low}
 

@@ -1,5 +1,5 @@
 -- The run moved forward: each write keeps the table sound, the run ends at an empty slot, and one entry is gained.
-use Rattle.std.proofs.Common.{◌≡◌, ℕ, zero, suc, ◌+◌, ◌-◌, ◌/◌, ◌%◌, ◌^◌, ◌<◌, ◌≤◌, Bool, true, false, cond, eqb, ◌⊎◌, List, length, get_or, set, sym, refl, ap, ◌∙◌, subst, inl, inr, mod-lt, mod-eq_of_lt, arith, length-set}
+use Rattle.std.proofs.Common.{◌≡◌, ℕ, zero, suc, ◌+◌, ◌-◌, ◌/◌, ◌%◌, ◌^◌, ◌<◌, ◌≤◌, true, cond, eqb, List, length, get_or, set, sym, refl, ap, ◌∙◌, subst, inl, inr, mod-lt, mod-eq_of_lt, arith, length-set}
 use native.Mathlib.Nat.{mod-mod}
 use Rattle.std.proofs.lemmas.Bool.Decides.{eqb_tells}
 use Rattle.std.proofs.lemmas.Bool.{cases_eq}
@@ -10,8 +10,8 @@ use Rattle.handles.specs.Shift.{run_from, run, pushed, further}
 use Rattle.handles.specs.declared.slot.Slot.{Slot}
 use Rattle.handles.proofs.Least.{least}
 use Rattle.handles.proofs.Ring.{round, back, apart, power}
-use Rattle.handles.proofs.Ranks.{rank_same, rank_set_same, rank_set_other, Level, local_set, meta_get_d}
-use Rattle.handles.proofs.Vacancy.{gap_from, full, full_one, rank_pos, rank_empty, empty_rank, rank_below}
+use Rattle.handles.proofs.Ranks.{rank_same, rank_set_same, rank_set_other, local_set, meta_get_d}
+use Rattle.handles.proofs.Vacancy.{gap_from, full_one, rank_pos, rank_empty, empty_rank, rank_below}
 use Rattle.handles.proofs.Weighing.{weigh_set, occupied_set, weight_further, weight_empty}
 
 module _ {X : Type 0} where

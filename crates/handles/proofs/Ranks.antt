@@ -1,9 +1,9 @@
 -- Reading and writing one slot: its meta, its rank, and the one local fact of a sound table.
-use Rattle.std.proofs.Common.{◌≡◌, ℕ, zero, suc, ◌+◌, ◌-◌, ◌%◌, ◌<◌, ◌≤◌, ◌≢◌, ◌⊎◌, List, [], ◌∷◌, length, get_or, set, sym, refl, ap, ◌∙◌, subst, inl, inr, le_of_suc-le-suc, not-suc-le-zero, mod-lt, arith}
+use Rattle.std.proofs.Common.{◌≡◌, ℕ, zero, suc, ◌+◌, ◌%◌, ◌<◌, ◌≤◌, List, [], ◌∷◌, length, get_or, set, refl, ap, ◌∙◌, subst, inl, inr, le_of_suc-le-suc, mod-lt, arith}
 use Rattle.std.proofs.lemmas.Bool.{cases_eq}
 use Rattle.handles.specs.Slots.{meta_of, rank, rank_of, Local}
 use Rattle.handles.specs.declared.slot.Slot.{Slot}
-use Rattle.handles.proofs.Ring.{back, round}
+use Rattle.handles.proofs.Ring.{round}
 
 module _ {X : Type 0} where
   pub meta_set_same : (xs : List (Slot X)) (i : ℕ) (s : Slot X) → i < length xs → meta_of (set xs i s) i ≡ s.meta

@@ -1,7 +1,7 @@
 -- What the code of the reader and of a search answers, from the search's own answer.
-use Rattle.std.proofs.Common.{◌≡◌, ℕ, zero, suc, ◌+◌, ◌-◌, ◌*◌, ◌%◌, ◌<◌, ◌≤◌, Bool, true, false, cond, eqb, ◌⊎◌, List, [], ◌∷◌, length, get_or, Some, None, Option, sym, refl, ap, ◌∙◌, subst, inl, inr, arith}
+use Rattle.std.proofs.Common.{◌≡◌, ℕ, zero, suc, ◌+◌, ◌-◌, ◌%◌, ◌<◌, Bool, true, cond, List, [], ◌∷◌, length, get_or, Some, None, Option, sym, refl, ap, ◌∙◌, subst, inl, inr, arith}
 use Rattle.std.proofs.lemmas.Bool.Decides.{eqb_tells}
-use Rattle.handles.specs.Slots.{rank, rank_of, meta_of, occupied, empty, Sound, fingerprint}
+use Rattle.handles.specs.Slots.{rank_of, meta_of, occupied, empty, Sound, fingerprint}
 use Rattle.handles.specs.Seek.{seek_from, candidates_from, candidates, first_by, to_come}
 use Rattle.handles.specs.declared.slot.Slot.{Slot}
 use Rattle.handles.proofs.Vacancy.{full}

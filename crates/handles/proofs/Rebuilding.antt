@@ -1,14 +1,13 @@
 -- A rebuild places each old entry anew, one by one, and stays sound all along.
-use Rattle.std.proofs.Common.{◌≡◌, ℕ, zero, suc, ◌+◌, ◌<◌, ◌≤◌, Bool, true, false, cond, eqb, ◌⊎◌, List, [], ◌∷◌, length, get_or, drop, sym, refl, ap, ◌∙◌, subst, inl, inr, arith}
+use Rattle.std.proofs.Common.{◌≡◌, ℕ, ◌+◌, ◌<◌, ◌≤◌, cond, eqb, List, length, get_or, drop, sym, ap, ◌∙◌, subst, inl, inr, arith}
 use Rattle.std.proofs.lemmas.List.{drop_more, drop_all}
 use Rattle.std.proofs.lemmas.Bool.Decides.{eqb_tells}
-use Rattle.handles.specs.Slots.{occupied, room, allowed, Sound, empty, Local}
+use Rattle.handles.specs.Slots.{occupied, room, Sound, empty}
 use Rattle.handles.specs.Shift.{inserted}
 use Rattle.handles.specs.Calls.{rebuilt}
 use Rattle.handles.specs.declared.slot.Slot.{Slot}
 use Rattle.handles.proofs.Vacancy.{full, full_one}
-use Rattle.handles.proofs.Pushing.{Ring}
-use Rattle.handles.proofs.Placing.{inserted_sound, inserted_length, inserted_occupied, roomy_ring}
+use Rattle.handles.proofs.Placing.{inserted_sound, inserted_occupied, roomy_ring}
 
 module _ {X : Type 0} (rule : X → ℕ) where
   -- one old slot: passed over where it is empty, and placed anew where it is not

@@ -1,9 +1,9 @@
 -- A table with fewer entries than slots has an empty slot, so that every walk and every run ends within one round.
-use Rattle.std.proofs.Common.{◌≡◌, ℕ, zero, suc, ◌+◌, ◌-◌, ◌/◌, ◌%◌, ◌<◌, ◌≤◌, Bool, true, false, cond, eqb, ◌⊎◌, List, [], ◌∷◌, length, get_or, set, sym, refl, ap, ◌∙◌, inl, inr, le_of_suc-le-suc, not-suc-le-zero, mod-lt, mod-eq_of_lt, arith}
+use Rattle.std.proofs.Common.{◌≡◌, ℕ, zero, suc, ◌+◌, ◌/◌, ◌%◌, ◌<◌, ◌≤◌, cond, eqb, List, [], ◌∷◌, length, ap, ◌∙◌, inl, inr, mod-eq_of_lt, arith}
 use Rattle.std.proofs.lemmas.Bool.Decides.{eqb_tells}
 use Rattle.handles.specs.Slots.{meta_of, rank, rank_of, Local, occupied, empty}
 use Rattle.handles.specs.declared.slot.Slot.{Slot}
-use Rattle.handles.proofs.Ring.{rebase, round}
+use Rattle.handles.proofs.Ring.{rebase}
 use Rattle.handles.proofs.Ranks.{rank_same}
 
 -- what one slot counts

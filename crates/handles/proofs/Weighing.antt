@@ -1,9 +1,9 @@
 -- One weighing of all that the slots hold: what a write changes in it, and the count of entries as a weighing.
-use Rattle.std.proofs.Common.{◌≡◌, ℕ, zero, suc, ◌+◌, ◌-◌, ◌/◌, ◌%◌, ◌<◌, ◌≤◌, Bool, true, false, cond, eqb, ◌⊎◌, List, [], ◌∷◌, length, get_or, set, sym, refl, ap, ◌∙◌, subst, inl, inr, le_of_suc-le-suc, mod-lt, mod-eq_of_lt, arith, length-set}
+use Rattle.std.proofs.Common.{◌≡◌, ℕ, zero, suc, ◌+◌, ◌-◌, ◌/◌, ◌%◌, ◌<◌, ◌≤◌, cond, eqb, List, [], ◌∷◌, length, get_or, set, sym, ap, ◌∙◌, inl, inr, le_of_suc-le-suc, mod-lt, arith}
 use native.Mathlib.Nat.{add-mod_right, mod-add-mod}
 use Rattle.std.proofs.lemmas.Bool.Decides.{eqb_tells}
-use Rattle.handles.specs.Slots.{meta_of, weight, weigh_from, weigh, occupied, empty, home_of}
-use Rattle.handles.specs.Shift.{further, nearer, vacated}
+use Rattle.handles.specs.Slots.{meta_of, weight, weigh_from, occupied, empty, home_of}
+use Rattle.handles.specs.Shift.{further, nearer}
 use Rattle.handles.specs.declared.slot.Slot.{Slot}
 use Rattle.handles.proofs.Ring.{small}
 use Rattle.handles.proofs.Vacancy.{full}

@@ -1,5 +1,5 @@
 -- The candidates of a hash: the entries that a walk passes with the meta that the hash has there.
-use Rattle.std.specs.Prelude.{◌≡◌, ℕ, zero, suc, ◌+◌, ◌-◌, ◌%◌, Bool, true, false, cond, ◌&&◌, List, [], ◌∷◌, ◌++◌, length, Some, None, Option, ◌==◌, nat_le}
+use Rattle.std.specs.Prelude.{◌≡◌, ℕ, zero, suc, ◌+◌, ◌-◌, ◌%◌, Bool, false, cond, ◌&&◌, List, [], ◌∷◌, ◌++◌, length, Some, None, Option, ◌==◌, nat_le}
 use Rattle.handles.specs.Slots.{rank, meta_at, fingerprint}
 use Rattle.handles.specs.declared.slot.Slot.{Slot}
 

@@ -1,5 +1,5 @@
 -- Slots: what a meta says, which slot counts are allowed, what a table holds, and when it is sound.
-use Rattle.std.specs.Prelude.{◌≡◌, ℕ, zero, suc, ◌+◌, ◌-◌, ◌*◌, ◌/◌, ◌%◌, ◌^◌, ◌≤◌, Bool, true, false, cond, ◌||◌, List, [], ◌∷◌, length, ◌==◌}
+use Rattle.std.specs.Prelude.{◌≡◌, ℕ, zero, suc, ◌+◌, ◌-◌, ◌*◌, ◌/◌, ◌%◌, ◌^◌, ◌≤◌, Bool, cond, ◌||◌, List, [], ◌∷◌, length, ◌==◌}
 use Rattle.handles.specs.declared.slot.Slot.{Slot}
 
 -- the meta of a slot that holds nothing

@@ -1,4 +1,5 @@
 //! A multimap from 64-bit hashes to handles, by Robin Hood hashing with backward-shift removal.
+#![tactic(auto)]
 
 mod calls;
 mod entries;

@@ -1,4 +1,5 @@
 //! The handle table for a caller in C or Rust: whole lists of calls on numbers, answered and recorded call by call.
+#![tactic(auto)]
 
 use handles::{ListedHashes, Place, Reserved, Slot, Table};
 

@@ -1,4 +1,5 @@
 //! Replays calls on a handle table with the answers and slots that the Rust table gave, and counts the differences.
+#![tactic(auto)]
 
 mod sample;
 

@@ -1,4 +1,5 @@
 //! Examples of the handle table.
+#![tactic(auto)]
 
 #[cfg(test)]
 mod tests {

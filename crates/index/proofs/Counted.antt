@@ -1,8 +1,8 @@
 -- What the table's calls do to the counts of an index.
-use Rattle.std.proofs.Common.{◌≡◌, ℕ, zero, suc, ◌+◌, ◌%◌, ◌<◌, ◌≤◌, Bool, true, false, cond, ◌&&◌, eqb, ltb, ◌⊎◌, List, [], ◌∷◌, length, is_some, Some, None, Ok, Err, Option, Result, sym, refl, ap, ◌∙◌, subst, inl, inr, mod-lt, arith}
+use Rattle.std.proofs.Common.{◌≡◌, ℕ, suc, ◌+◌, ◌%◌, Bool, true, false, cond, ◌&&◌, eqb, ltb, List, [], ◌∷◌, length, is_some, Some, None, Ok, Err, Option, Result, sym, refl, ap, ◌∙◌, mod-lt, arith}
 use Rattle.handles.specs.Meaning.{alike}
 use Rattle.handles.specs.Slots.{allowed, room, occupied, weigh, weigh_from, fingerprint}
-use Rattle.handles.specs.Seek.{candidates, first_by}
+use Rattle.handles.specs.Seek.{candidates}
 use Rattle.handles.specs.Kinds.{place_meaning}
 use Rattle.handles.specs.Shift.{inserted, cleared}
 use Rattle.handles.specs.Calls.{Inserts, Removes, sought, taken_out}
@@ -15,11 +15,11 @@ use Rattle.handles.proofs.Pushing.{Ring, ring_pos}
 use Rattle.handles.proofs.Placing.{print_below, sound_ring, cleared_occupied, cleared_weighs}
 use Rattle.handles.proofs.Candidates.{first_is, handle_at}
 use Rattle.handles.proofs.Calling.{roomy_true, roomy_false}
-use Rattle.handle_laws.specs.Runs.{same_spot, times_read}
+use Rattle.handle_laws.specs.Runs.{times_read}
 use Rattle.handle_laws.proofs.Counting.{count_all}
 use Rattle.handle_laws.proofs.Laws.{some_first}
 use Rattle.index.specs.declared.index.KeyIndex.{KeyIndex}
-use Rattle.index.specs.Filed.{entry, filed, size, once, Gains, Files, Unfiles}
+use Rattle.index.specs.Filed.{entry, filed, size, once, Files, Unfiles}
 
 -- an index over a table
 abbrev pub over : PlaceTable → KeyIndex

@@ -1,14 +1,13 @@
 -- What a search of the table answers of an index.
-use Rattle.std.proofs.Common.{◌≡◌, ℕ, ◌<◌, ◌≤◌, Bool, true, false, ◌&&◌, eqb, List, [], ◌∷◌, Some, None, Option, sym, refl, ap, ◌∙◌, subst, arith, eq-eqb}
+use Rattle.std.proofs.Common.{◌≡◌, ℕ, Bool, List, [], ◌∷◌, Some, None, Option, sym, refl, ap, ◌∙◌, arith}
 use Rattle.handles.specs.Meaning.{alike}
 use Rattle.handles.specs.Seek.{candidates, first_by}
 use Rattle.handles.specs.Kinds.{place_meaning}
 use Rattle.handles.specs.declared.kinds.Place.{Place}
 use Rattle.handles.specs.declared.places.PlaceTable.{PlaceTable}
 use Rattle.handles.proofs.Meaning.{alike_decides}
-use Rattle.handle_laws.specs.Runs.{how_many}
 use Rattle.handle_laws.proofs.Totals.{first_none}
-use Rattle.index.specs.Filed.{bears, filed, Found}
+use Rattle.index.specs.Filed.{bears, Found}
 use Rattle.index.proofs.Firsts.{fewer, first_passes}
 use Rattle.index.proofs.Counted.{over, candidates_filed}
 

@@ -3,7 +3,6 @@ use Rattle.std.specs.Prelude.{◌≡◌, ℕ, ◌+◌, ◌%◌, ◌<◌, ◌≤�
 use Rattle.handles.specs.Meaning.{alike}
 use Rattle.handles.specs.Slots.{occupied, weigh, fingerprint}
 use Rattle.handles.specs.Kinds.{place_meaning}
-use Rattle.handles.specs.declared.kinds.Place.{Place}
 use Rattle.handles.specs.declared.refusal.TableRefusal.{TableRefusal}
 use Rattle.handles.specs.declared.refusal.TableRefusal.TheVariants.{Full}
 use Rattle.handle_laws.specs.Runs.{same_spot}

@@ -1,5 +1,5 @@
 -- When an index is right: it is tied to the places where keys lie.
-use Rattle.std.specs.Prelude.{◌≡◌, ℕ, ◌<◌, ◌≤◌, Bool, true, false, cond, List, [], ◌∷◌, length, Some, None, Ok, Err, Option, Result, nat_eq}
+use Rattle.std.specs.Prelude.{◌≡◌, ℕ, ◌<◌, ◌≤◌, Bool, true, false, cond, List, [], ◌∷◌, length, Some, None, Ok, Option, Result, nat_eq}
 use Rattle.handles.specs.declared.refusal.TableRefusal.{TableRefusal}
 use Rattle.handle_laws.specs.Runs.{how_many, same_spot}
 use Rattle.index.specs.declared.index.KeyIndex.{KeyIndex}

@@ -1,4 +1,5 @@
 //! Examples of an index and of keys laid in records.
+#![tactic(auto)]
 
 #[cfg(test)]
 mod tests {

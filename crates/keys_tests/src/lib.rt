@@ -86,7 +86,7 @@ mod tests {
         assert!(rt; first.same(&second));
         assert_eq!(rt; first.hash(), second.hash());
         assert!(rt; !first.same(&other));
-        assert!(rt; first.spelling() == b"Upper-3");
+        assert!(rt; first.spelling() == b"Upper-3".as_slice());
         Ok(())
     }
 }

@@ -1,9 +1,9 @@
 -- How often a node stands in a list, with and without another.
-use Rattle.std.proofs.Common.{◌≡◌, ℕ, zero, suc, ◌+◌, ◌-◌, ◌<◌, ◌≤◌, Bool, true, false, cond, eqb, List, [], ◌∷◌, ◌++◌, length, sym, refl, ap, ◌∙◌, inl, inr, arith}
+use Rattle.std.proofs.Common.{◌≡◌, ℕ, zero, suc, ◌+◌, ◌≤◌, true, false, cond, eqb, List, [], ◌∷◌, ◌++◌, length, refl, ap, ◌∙◌, inl, inr, arith}
 use Rattle.std.proofs.lemmas.List.{append-nil}
 use Rattle.std.proofs.lemmas.Bool.{cases_eq, eq-eqb, ne_eqb, cases_Bool}
 use Rattle.std.proofs.lemmas.Bool.Decides.{nat_tests}
-use Rattle.links.specs.Rows.{occurs, without, last_or}
+use Rattle.links.specs.Rows.{occurs, without}
 
 pub occurs_same : (p : ℕ) (xs : List ℕ) → occurs p (p ∷ xs) ≡ 1 + occurs p xs
 occurs_same p xs = rw (eq-eqb p p refl)

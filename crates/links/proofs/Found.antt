@@ -1,12 +1,10 @@
 -- What is read off a line: the ends of a list, its length, and the list that holds a node.
-use Rattle.std.proofs.Common.{◌≡◌, ℕ, zero, suc, ◌+◌, ◌<◌, ◌≤◌, true, false, cond, eqb, ltb, List, [], ◌∷◌, ◌++◌, length, get_or, Some, None, Option, sym, refl, ap, ◌∙◌, subst, inl, inr, arith}
-use Rattle.std.proofs.lemmas.List.{get_or_default}
-use Rattle.std.proofs.lemmas.Bool.{cases_eq, eq-eqb, ne_eqb}
+use Rattle.std.proofs.Common.{◌≡◌, ℕ, zero, suc, ◌+◌, ◌<◌, ◌≤◌, cond, eqb, List, [], ◌∷◌, length, get_or, Some, None, sym, refl, ap, arith}
 use Rattle.links.specs.declared.cells.Cells.{Cells}
-use Rattle.links.specs.Rows.{row, rows, nth, walk, occurs, first_of, last_of, last_or, holder}
+use Rattle.links.specs.Rows.{row, rows, nth, occurs, first_of, last_of, last_or, holder}
 use Rattle.links.specs.Cells.{Sized}
-use Rattle.links.proofs.Paths.{Path, first_or, next_is, prev_is}
-use Rattle.links.proofs.Laid.{Laid, here, elsewhere}
+use Rattle.links.proofs.Paths.{first_or, next_is, prev_is}
+use Rattle.links.proofs.Laid.{elsewhere}
 use Rattle.links.proofs.Whole.{Holds, Linked, Once, holds, length_walk, four}
 
 pub nth_row : (c : Cells) (k : ℕ) → k < 4 → nth k (rows c.next c.lens) ≡ row c.next c.lens k

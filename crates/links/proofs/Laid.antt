@@ -1,12 +1,11 @@
 -- Lists laid on a line: a node is taken out of its list, or put into one, and every other list stays.
-use Rattle.std.proofs.Common.{◌≡◌, ℕ, zero, suc, ◌+◌, ◌-◌, ◌<◌, ◌≤◌, Bool, true, false, cond, eqb, ◌≢◌, ◌⊎◌, List, [], ◌∷◌, ◌++◌, length, get_or, set, sym, refl, ap, ◌∙◌, subst, inl, inr, arith, length-append, length-set}
-use Rattle.std.proofs.lemmas.List.{get_or-set_same, get_or-set_other, get_or_past}
+use Rattle.std.proofs.Common.{◌≡◌, ℕ, ◌+◌, ◌<◌, ◌≤◌, cond, eqb, List, length, get_or, sym, ◌∙◌, inl, inr, arith}
+use Rattle.std.proofs.lemmas.List.{get_or_past}
 use Rattle.std.proofs.lemmas.Bool.{cases_eq, cases_lt, eq-eqb, ne_eqb}
-use Rattle.std.proofs.lemmas.Bool.Decides.{nat_tests}
-use Rattle.links.specs.Rows.{occurs, without, last_or, row}
-use Rattle.links.proofs.Counts.{occurs_same, occurs_append, occurs_lost, occurs_kept, length_without, without_absent, short}
-use Rattle.links.proofs.Paths.{Path, Among, Away, first_or, walk_is, next_is, prev_is, before_among, after_among, last_among, first_among, frame}
-use Rattle.links.proofs.Moves.{Plain, taken, placed}
+use Rattle.links.specs.Rows.{occurs, row}
+use Rattle.links.proofs.Counts.{short}
+use Rattle.links.proofs.Paths.{Path, Among, Away, walk_is}
+use Rattle.links.proofs.Moves.{Plain}
 
 pub record Laid (nx pv home lens : List ℕ) (ls : ℕ → List ℕ) : Type 0 where
   pub next_long : length nx ≡ 517

@@ -1,10 +1,10 @@
 -- A node taken out of a path, and one put into it.
-use Rattle.std.proofs.Common.{◌≡◌, ℕ, zero, suc, ◌+◌, ◌-◌, ◌<◌, ◌≤◌, ◌≢◌, ◌⊎◌, List, [], ◌∷◌, ◌++◌, length, get_or, set, sym, refl, ap, ◌∙◌, subst, inl, inr, arith, length-set}
+use Rattle.std.proofs.Common.{◌≡◌, ℕ, ◌<◌, ◌≤◌, ◌≢◌, List, [], ◌∷◌, ◌++◌, length, get_or, set, sym, ap, ◌∙◌, subst, inl, inr, arith, length-set}
 use Rattle.std.proofs.lemmas.List.{get_or-set_same, get_or-set_other}
 use Rattle.std.proofs.lemmas.Bool.{cases_eq, eq-eqb, ne_eqb}
 use Rattle.links.specs.Rows.{occurs, without, last_or}
 use Rattle.links.proofs.Counts.{occurs_same, occurs_other, occurs_append, without_absent}
-use Rattle.links.proofs.Paths.{Path, Among, Away, first_or, next_is, before_among, after_among, last_among, first_among, away_first, frame}
+use Rattle.links.proofs.Paths.{Path, Among, Away, first_or, before_among, after_among, last_among, first_among, away_first, frame}
 
 -- what stands among nodes is not what stands away from them
 pub differ : (a x y : ℕ) (us : List ℕ) → Among a x us → (y ≡ x → ⊥) → occurs y us ≡ 0 → y ≡ a → ⊥

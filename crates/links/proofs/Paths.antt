@@ -1,9 +1,9 @@
 -- What leads from x through some nodes to y, and which writes leave it.
-use Rattle.std.proofs.Common.{◌≡◌, ℕ, zero, suc, ◌+◌, ◌-◌, ◌<◌, ◌≤◌, Bool, true, false, cond, ◌&&◌, eqb, ◌≢◌, ◌⊎◌, List, [], ◌∷◌, ◌++◌, length, get_or, set, sym, refl, ap, ◌∙◌, subst, inl, inr, arith}
-use Rattle.std.proofs.lemmas.List.{get_or-set_same, get_or-set_other}
+use Rattle.std.proofs.Common.{◌≡◌, ℕ, ◌≤◌, true, ◌&&◌, eqb, ◌≢◌, ◌⊎◌, List, [], ◌∷◌, length, get_or, set, sym, refl, ap, ◌∙◌, subst, inl, inr, arith}
+use Rattle.std.proofs.lemmas.List.{get_or-set_other}
 use Rattle.std.proofs.lemmas.Bool.{cases_eq, eq-eqb, eqb-true, and_parts, and_from}
-use Rattle.links.specs.Rows.{walk, leads, occurs, without, last_or}
-use Rattle.links.proofs.Counts.{occurs_same, occurs_other, without_absent}
+use Rattle.links.specs.Rows.{walk, leads, occurs, last_or}
+use Rattle.links.proofs.Counts.{occurs_same, occurs_other}
 
 abbrev pub Path : List ℕ → List ℕ → ℕ → List ℕ → ℕ → Type 0
 Path nx pv x [] y = (get_or nx x 0 ≡ y) × (get_or pv y 0 ≡ x)

@@ -1,11 +1,11 @@
 -- The two steps on a line keep its lists laid: a node taken out, and a node put in.
-use Rattle.std.proofs.Common.{◌≡◌, ℕ, zero, suc, ◌+◌, ◌-◌, ◌<◌, ◌≤◌, Bool, true, false, cond, eqb, ◌≢◌, ◌⊎◌, List, [], ◌∷◌, ◌++◌, length, get_or, set, sym, refl, ap, ◌∙◌, subst, inl, inr, arith, length-append, length-set}
-use Rattle.std.proofs.lemmas.List.{get_or-set_same, get_or-set_other, get_or_past}
-use Rattle.std.proofs.lemmas.Bool.{cases_eq, cases_lt, eq-eqb, ne_eqb}
+use Rattle.std.proofs.Common.{◌≡◌, ℕ, ◌+◌, ◌-◌, ◌<◌, ◌≤◌, cond, eqb, ◌≢◌, List, ◌∷◌, ◌++◌, length, get_or, set, sym, refl, ap, ◌∙◌, subst, inl, inr, arith, length-append, length-set}
+use Rattle.std.proofs.lemmas.List.{get_or-set_same, get_or-set_other}
+use Rattle.std.proofs.lemmas.Bool.{cases_eq, eq-eqb, ne_eqb}
 use Rattle.links.specs.Rows.{occurs, without, last_or}
 use Rattle.links.proofs.Counts.{occurs_same, occurs_other, occurs_append, occurs_lost, occurs_kept, length_without, without_absent}
-use Rattle.links.proofs.Paths.{Path, Among, Away, first_or, before_among, after_among, last_among, first_among, frame}
-use Rattle.links.proofs.Moves.{Plain, taken, placed}
+use Rattle.links.proofs.Paths.{Path, Among, first_or, before_among, after_among, last_among, first_among, frame}
+use Rattle.links.proofs.Moves.{taken, placed}
 use Rattle.links.proofs.Laid.{Laid, here, elsewhere, simple, within, apart, absent}
 
 module _ (nx pv home lens : List ℕ) (ls : ℕ → List ℕ) (laid : Laid nx pv home lens ls) (m : ℕ) where

@@ -1,12 +1,12 @@
 -- The steps on the cells of a line, and what they make of its four lists.
-use Rattle.std.proofs.Common.{◌≡◌, ℕ, zero, suc, ◌+◌, ◌-◌, ◌<◌, ◌≤◌, Bool, true, false, cond, eqb, ltb, ◌⊎◌, List, [], ◌∷◌, ◌++◌, length, get_or, set, sym, refl, ap, ◌∙◌, subst, inl, inr, arith}
+use Rattle.std.proofs.Common.{◌≡◌, ℕ, zero, suc, ◌+◌, ◌<◌, ◌≤◌, true, cond, eqb, List, [], ◌∷◌, ◌++◌, length, get_or, sym, refl, ap, inl, inr, arith}
 use Rattle.std.proofs.lemmas.List.{get_or_default, get_or-set_same, append-nil}
 use Rattle.std.proofs.lemmas.Bool.{cases_lt, lt-ltb, le-ltb}
 use Rattle.links.specs.declared.cells.Cells.{Cells}
 use Rattle.links.specs.Rows.{walk, row, rows, leads, occurs, without, pushed_front, pushed_back}
-use Rattle.links.specs.Cells.{Sized, cut, detached, attached}
+use Rattle.links.specs.Cells.{Sized, detached, attached}
 use Rattle.links.proofs.Counts.{without_absent}
-use Rattle.links.proofs.Paths.{Path, path_from, path_leads, next_is, prev_is}
+use Rattle.links.proofs.Paths.{path_from, path_leads, next_is, prev_is}
 use Rattle.links.proofs.Laid.{Laid, row_is, elsewhere}
 use Rattle.links.proofs.Steps.{laid_detached, laid_attached}
 

@@ -6,6 +6,7 @@
 //!
 //! A sentinel stands before each list and after the last one. So a list has no empty case, a list's
 //! end is the neighbour of a sentinel, and a node is moved between any two lists in the same few writes.
+#![tactic(auto)]
 
 mod cells;
 mod line;

@@ -1,11 +1,10 @@
 -- After an insertion the limits are kept.
-use Rattle.std.proofs.Common.{◌≡◌, ℕ, zero, suc, ◌+◌, ◌-◌, ◌<◌, ◌≤◌, Bool, true, false, cond, ◌&&◌, ◌||◌, eqb, ltb, leb, List, [], ◌∷◌, ◌++◌, map, length, take, Some, None, Option, sym, refl, ap, ◌∙◌, inl, inr, arith, length-append}
+use Rattle.std.proofs.Common.{◌≡◌, ℕ, suc, ◌+◌, ◌<◌, ◌≤◌, Bool, true, false, cond, ◌&&◌, ◌||◌, eqb, leb, List, [], ◌∷◌, ◌++◌, length, Some, None, Option, sym, refl, ap, ◌∙◌, inl, inr, arith, length-append}
 use Rattle.std.proofs.lemmas.List.{length-map}
 use Rattle.std.proofs.lemmas.Bool.{cases_eq, ltb-true, ltb-false, leb-false, eqb-false, or_parts}
-use Rattle.machine.specs.declared.report.Part.{Part}
 use Rattle.machine.specs.declared.report.Part.TheVariants as part
-use Rattle.machine.specs.Limits.{small_limit, main_limit, ghost_limit, window}
-use Rattle.machine.specs.Replacement.{Resident, Parts, Swept, Ended, Vacated, ended, before, sweep, sweep_from, came_round, is_used, is_tail_used, marked, plain, aged, popped, main_evicted, tail_promoted, tail_evicted, carried_out, plan, plan_of, to_main, vacancy, main_full, seated_in, seated, vacated}
+use Rattle.machine.specs.Limits.{small_limit, main_limit, window}
+use Rattle.machine.specs.Replacement.{Resident, Parts, Swept, Ended, ended, before, sweep, sweep_from, is_used, is_tail_used, marked, plain, aged, popped, main_evicted, tail_promoted, tail_evicted, carried_out, plan, to_main, vacancy, main_full, seated_in, seated, vacated}
 use Rattle.policy.specs.declared.plan.Admission.{Admission}
 use Rattle.policy.specs.Insertion.{is_main, admission_of}
 use Rattle.policy.proofs.Readiness.{Limits}

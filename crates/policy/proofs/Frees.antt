@@ -1,7 +1,6 @@
 -- A sweep of somebody has a victim, and a queue of somebody a tail.
-use Rattle.std.proofs.Common.{◌≡◌, ℕ, zero, suc, ◌+◌, ◌<◌, ◌≤◌, Bool, true, false, cond, List, [], ◌∷◌, ◌++◌, length, Some, None, Option, arith, length-append}
-use Rattle.machine.specs.declared.report.Part.{Part}
-use Rattle.machine.specs.Replacement.{Resident, Swept, ended, sweep_from, is_used, marked, plain}
+use Rattle.std.proofs.Common.{◌≡◌, ℕ, suc, ◌+◌, ◌≤◌, true, false, cond, List, [], ◌∷◌, ◌++◌, length, Some, None, arith, length-append}
+use Rattle.machine.specs.Replacement.{Resident, ended, sweep_from, is_used, marked, plain}
 use Rattle.queues.specs.Steps.{told, place_of}
 
 -- a sweep of somebody has a victim, and a queue of somebody a tail

@@ -1,8 +1,8 @@
 -- Steps that bring in nobody keep the limits.
-use Rattle.std.proofs.Common.{◌≡◌, ℕ, ◌+◌, ◌<◌, ◌≤◌, Bool, true, false, cond, not, eqb, List, [], ◌∷◌, ◌++◌, map, length, filter, sym, refl, ap, ◌∙◌, arith}
+use Rattle.std.proofs.Common.{◌≡◌, ℕ, ◌≤◌, Bool, true, false, cond, not, eqb, List, [], ◌∷◌, length, filter, refl, ap, arith}
 use Rattle.std.proofs.lemmas.List.{length-map}
 use Rattle.links.specs.Rows.{without}
-use Rattle.machine.specs.Replacement.{Resident, Parts, uses, drops, hit}
+use Rattle.machine.specs.Replacement.{Parts, uses, drops, hit}
 use Rattle.queues.proofs.Maps.{eqb_sym}
 
 pub record Fewer (s t : Parts ℕ ℕ ℕ) : Type 0 where

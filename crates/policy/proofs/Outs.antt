@@ -1,5 +1,5 @@
 -- What leaves by a step of the insertion, and what stays.
-use Rattle.std.proofs.Common.{◌≡◌, ℕ, ◌+◌, ◌<◌, ◌≤◌, ◌⊎◌, List, [], ◌∷◌, ◌++◌, map, Some, None, Option, sym, refl, ap, ◌∙◌, subst, inl, inr, arith, MatchOption}
+use Rattle.std.proofs.Common.{◌≡◌, ℕ, ◌⊎◌, List, [], ◌∷◌, Some, None, Option, refl, ap, ◌∙◌, inr, arith, MatchOption}
 use Rattle.links.specs.Rows.{first_of}
 use Rattle.machine.specs.Replacement.{Resident, Parts, Swept, Ended, ended}
 use Rattle.queues.specs.declared.residents.Residents.{Residents}

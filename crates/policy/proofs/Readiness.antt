@@ -1,11 +1,11 @@
 -- The limits add up, and what stands in the parts when an insertion begins.
-use Rattle.std.proofs.Common.{◌≡◌, ℕ, ◌+◌, ◌-◌, ◌/◌, ◌%◌, ◌<◌, ◌≤◌, max, true, false, cond, ltb, leb, List, ◌++◌, length, sym, refl, ap, ◌∙◌, inl, inr, arith}
+use Rattle.std.proofs.Common.{◌≡◌, ℕ, ◌+◌, ◌/◌, ◌≤◌, max, ◌++◌, length, inl, inr, arith}
 use Rattle.std.proofs.lemmas.List.{length-map, length-append}
-use Rattle.std.proofs.lemmas.Bool.{cases_lt, le-leb, lt-leb, ltb-true, ltb-false}
+use Rattle.std.proofs.lemmas.Bool.{cases_lt, le-leb, lt-leb}
 use Rattle.machine.specs.Limits.{small_limit, main_limit, ghost_limit, window}
 use Rattle.queues.specs.Slots.{list_of}
 use Rattle.queues.specs.Held.{resident}
-use Rattle.policy.specs.declared.core.Core.{Core}
+use Rattle.policy.specs.declared.makeup.Core.{Core}
 use Rattle.policy.specs.View.{view}
 
 pub record Limits (c : ℕ) : Type 0 where

@@ -1,5 +1,5 @@
 -- An insertion in the policy's steps: a place is vacated onto the top of the free stack, and the newcomer takes its seat there.
-use Rattle.std.specs.Prelude.{◌≡◌, ℕ, ◌≤◌, Bool, true, false, cond, ◌⊎◌, List, [], ◌∷◌, take, Some, None, Option}
+use Rattle.std.specs.Prelude.{◌≡◌, ℕ, ◌≤◌, Bool, true, false, cond, List, [], ◌∷◌, take, Some, None, Option}
 use Rattle.links.specs.Rows.{occurs}
 use Rattle.machine.specs.Replacement.{Resident, Parts, Swept, Ended, ended, Spot, reused, fresh, Vacated, vacancy as has_vacancy, vacated, seated}
 use Rattle.ghosts.specs.declared.noted.Noted.{Noted}
@@ -10,7 +10,7 @@ use Rattle.policy.specs.declared.plan.Admission.{Admission}
 use Rattle.policy.specs.declared.plan.Admission.TheVariants.{Small, Main}
 use Rattle.policy.specs.declared.plan.Vacancy.{Vacancy}
 use Rattle.policy.specs.declared.plan.Inserted.{Inserted}
-use Rattle.policy.specs.declared.core.Core.{Core}
+use Rattle.policy.specs.declared.makeup.Core.{Core}
 use Rattle.machine.specs.Limits.{small_limit}
 use Rattle.policy.specs.View.{view, Limited, Kept}
 

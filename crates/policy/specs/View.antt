@@ -4,7 +4,7 @@ use Rattle.machine.specs.Limits.{small_limit, main_limit, ghost_limit, window}
 use Rattle.machine.specs.Replacement.{Parts}
 use Rattle.queues.specs.Held.{held}
 use Rattle.ghosts.specs.Remembered.{remembered}
-use Rattle.policy.specs.declared.core.Core.{Core}
+use Rattle.policy.specs.declared.makeup.Core.{Core}
 
 -- the parts with what Ghost remembers
 abbrev pub noting : List ℕ → Parts ℕ ℕ ℕ → Parts ℕ ℕ ℕ

@@ -6,7 +6,7 @@ ghost use Rattle.queues.specs.Held.{locate, resides};
 ghost use Rattle.ghosts.specs.Remembered.{holds_node};
 ghost use Rattle.policy.specs.View.{view, allowed, flagged, Limited};
 
-use crate::core::{Core, MainRing, SmallQueue};
+use crate::makeup::{Core, MainRing, SmallQueue};
 use crate::policy::Policy;
 use crate::retain::release_flagged;
 use ghosts::GhostQueue;

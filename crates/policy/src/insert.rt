@@ -5,7 +5,7 @@ ghost use Rattle.machine.specs.Replacement.{vacancy, plan, carried_out, main_ful
 ghost use Rattle.policy.specs.View.{view, Limited, Kept};
 ghost use Rattle.policy.specs.Insertion.{Same, Freed, Told, Ready, Done, node_of, is_main, admission_of, part_of};
 
-use crate::core::Core;
+use crate::makeup::Core;
 use crate::plan::{Admission, Inserted, Vacancy};
 use crate::vacate::{demoted, promoted, replaced, vacant};
 use machine::report::Part;

@@ -1,10 +1,11 @@
 //! The Clock2Q+ replacement policy over places: it knows neither keys nor values. Small and Main
 //! hold places of residents, the free stack those that were given back, Ghost its own nodes.
+#![tactic(auto)]
 
 mod calls;
-mod core;
 mod insert;
 mod insertion;
+mod makeup;
 pub mod plan;
 mod policy;
 mod retain;

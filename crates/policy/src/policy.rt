@@ -2,7 +2,7 @@
 
 ghost use Rattle.policy.specs.View.{Limited, Kept};
 
-use crate::core::Core;
+use crate::makeup::Core;
 
 /// Which place is in Small, in Main or free, its mark, and what Ghost remembers.
 #[derive(Drop)]

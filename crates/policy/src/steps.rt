@@ -6,7 +6,7 @@ ghost use Rattle.queues.specs.Steps.{told};
 ghost use Rattle.policy.specs.View.{view};
 ghost use Rattle.policy.specs.Insertion.{Same, topped, main_out, promoted_out, TailEvicted};
 
-use crate::core::Core;
+use crate::makeup::Core;
 use ghosts::noted::Noted;
 use queues::selected::Selected;
 

@@ -7,7 +7,7 @@ ghost use Rattle.machine.specs.Replacement.{sweep, ended, popped, main_evicted, 
 ghost use Rattle.policy.specs.View.{view};
 ghost use Rattle.policy.specs.Insertion.{Same, Freed, Told, node_of};
 
-use crate::core::Core;
+use crate::makeup::Core;
 use crate::plan::{InsertionPlan, Vacancy};
 use crate::steps::{evict_main, evict_tail, find_free, promote_then_evict};
 use machine::report::Part as Joined;

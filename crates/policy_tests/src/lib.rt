@@ -1,4 +1,5 @@
 //! The size of the policy, and runs of its calls.
+#![tactic(auto)]
 
 #[cfg(test)]
 mod tests {

@@ -1,7 +1,7 @@
 -- The age of a resident after one more admission, the numbers going round at 256.
-use Rattle.std.proofs.Common.{◌≡◌, ℕ, zero, suc, ◌+◌, ◌-◌, ◌%◌, ◌<◌, ◌≤◌, true, ◌&&◌, leb, ◌⊎◌, List, [], ◌∷◌, ◌++◌, map, Some, None, Option, sym, refl, ap, ◌∙◌, inl, inr, arith}
+use Rattle.std.proofs.Common.{◌≡◌, ℕ, suc, ◌+◌, ◌%◌, ◌<◌, ◌≤◌, true, leb, List, [], ◌∷◌, ◌++◌, map, refl, inl, inr, arith}
 use Rattle.std.proofs.lemmas.Bool.{cases_eq, and_parts, and_from, leb-true, le-leb}
-use Rattle.links.specs.Rows.{occurs, last_or, last_of}
+use Rattle.links.specs.Rows.{occurs}
 use Rattle.links.proofs.Counts.{occurs_other, occurs_append, occurs_same as occurs_here}
 use Rattle.queues.specs.Slots.{since, rising}
 

@@ -1,17 +1,17 @@
 -- Releasing Main's first, or Small's tail, takes it alone.
-use Rattle.std.proofs.Common.{◌≡◌, ℕ, ◌+◌, ◌<◌, ◌≤◌, not, eqb, List, [], ◌∷◌, ◌++◌, map, Some, None, filter, Option, sym, refl, ap, ◌∙◌, subst, arith}
+use Rattle.std.proofs.Common.{◌≡◌, ℕ, ◌+◌, eqb, List, [], ◌∷◌, ◌++◌, map, Some, filter, sym, refl, ap, ◌∙◌, arith}
 use Rattle.links.specs.Rows.{occurs, without}
 use Rattle.links.proofs.Counts.{occurs_same, occurs_append, without_absent, without_append, without_first, without_last}
-use Rattle.machine.specs.Replacement.{Resident, Parts, Ended, ended}
+use Rattle.machine.specs.Replacement.{Resident, Ended, ended}
 use Rattle.queues.specs.declared.slots.Slots.{Slots}
 use Rattle.queues.specs.declared.residents.Residents.{Residents}
-use Rattle.queues.specs.Slots.{list_of, home_in}
+use Rattle.queues.specs.Slots.{list_of}
 use Rattle.queues.specs.Held.{resident, parts_of, held}
 use Rattle.queues.specs.Steps.{place_of, released}
-use Rattle.queues.proofs.Sound.{out_of_list, home_from, at_most_once, one_in_all}
+use Rattle.queues.proofs.Sound.{out_of_list, home_from, at_most_once}
 use Rattle.queues.proofs.Ends.{ended_map}
 use Rattle.queues.proofs.ToMain.{small_home, small_once}
-use Rattle.queues.proofs.Tail.{tail_split, tail_home}
+use Rattle.queues.proofs.Tail.{tail_split}
 use Rattle.queues.proofs.Released.{rest_small, rest_main, gained}
 
 module _ (s : Slots) (p : ℕ) where

@@ -1,14 +1,12 @@
 -- The ends of a list of places, and of what they carry.
-use Rattle.std.proofs.Common.{◌≡◌, ℕ, zero, suc, ◌+◌, ◌<◌, ◌≤◌, List, [], ◌∷◌, ◌++◌, map, length, Some, None, Option, sym, refl, ap, ◌∙◌, subst, arith}
-use Rattle.std.proofs.lemmas.List.{append-nil, append_assoc, map-append}
-use Rattle.links.specs.Rows.{occurs, first_of, last_or, last_of}
-use Rattle.machine.specs.Replacement.{Resident, Ended, ended, before, is_tail_used}
-use Rattle.links.proofs.Ends.{Split, split_last, Begins, split_first}
+use Rattle.std.proofs.Common.{◌≡◌, ℕ, List, [], ◌∷◌, ◌++◌, map, Some, refl, ap, arith}
+use Rattle.links.specs.Rows.{occurs, first_of, last_of}
+use Rattle.machine.specs.Replacement.{Resident, ended}
+use Rattle.links.proofs.Ends.{split_last, split_first}
 use Rattle.links.proofs.Counts.{occurs_same, occurs_append}
 use Rattle.queues.specs.declared.slots.Slots.{Slots}
 use Rattle.queues.specs.Slots.{list_of, home_in}
 use Rattle.queues.proofs.Sound.{home_from}
-use Rattle.queues.specs.Steps.{place_of}
 
 pub ended_map : (f : ℕ → Resident ℕ) (xs : List ℕ) (p : ℕ) → ended (map f (xs ++ p ∷ [])) ≡ Some (record { front = map f xs; tail = f p })
 ended_map f [] p = refl

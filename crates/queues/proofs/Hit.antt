@@ -1,9 +1,8 @@
 -- A use of a place changes one mark, and nothing else that shows.
-use Rattle.std.proofs.Common.{◌≡◌, ℕ, ◌<◌, ◌≤◌, Bool, true, false, cond, eqb, ◌≢◌, ◌⊎◌, List, [], ◌∷◌, ◌++◌, map, length, get_or, set, sym, refl, ap, ◌∙◌, subst, inl, inr, arith, length-set}
-use Rattle.std.proofs.lemmas.List.{get_or-set_same, get_or-set_other}
+use Rattle.std.proofs.Common.{◌≡◌, ℕ, ◌<◌, ◌≤◌, eqb, List, ◌++◌, map, length, sym, refl, ap, ◌∙◌, inl, inr, arith}
 use Rattle.std.proofs.lemmas.Bool.{cases_eq, eq-eqb, ne_eqb}
 use Rattle.links.specs.Rows.{occurs}
-use Rattle.machine.specs.Replacement.{Mark, Resident, Parts, hit, uses, touched}
+use Rattle.machine.specs.Replacement.{Mark, Resident, hit, uses, touched}
 use Rattle.queues.specs.declared.slots.Slots.{Slots}
 use Rattle.queues.specs.declared.state.SlotState.{SlotState}
 use Rattle.queues.specs.declared.state.SlotState.TheVariants.{Plain, Young, Used}
@@ -13,7 +12,7 @@ use Rattle.queues.specs.Slots.{list_of, home_in, state_of, age_of}
 use Rattle.queues.specs.Held.{resident, parts_of}
 use Rattle.queues.proofs.Maps.{map_same, map_map}
 use Rattle.links.proofs.Counts.{occurs_append}
-use Rattle.queues.proofs.Sound.{Sound, none_in_all}
+use Rattle.queues.proofs.Sound.{none_in_all}
 use Rattle.queues.proofs.Moved.{Restated, state_here, resident_other}
 
 pub seen_hit : (st : SlotState) (a : ℕ) → seen (met st Hit) a ≡ touched (seen st a)

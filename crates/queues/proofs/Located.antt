@@ -1,7 +1,7 @@
 -- The part that holds a place, by the list that does.
-use Rattle.std.proofs.Common.{◌≡◌, ℕ, zero, suc, ◌+◌, ◌<◌, ◌≤◌, Bool, true, false, cond, ◌||◌, ◌⊎◌, List, [], ◌∷◌, ◌++◌, map, Some, None, Option, sym, refl, ap, ◌∙◌, subst, inl, inr, arith}
+use Rattle.std.proofs.Common.{◌≡◌, ℕ, ◌+◌, ◌<◌, ◌≤◌, Bool, true, false, ◌⊎◌, ◌++◌, map, Some, None, Option, sym, refl, ◌∙◌, inl, inr, arith}
 use Rattle.std.proofs.lemmas.Bool.{cases_lt}
-use Rattle.links.specs.Lists.{lists, home_of}
+use Rattle.links.specs.Lists.{lists}
 use Rattle.links.specs.Rows.{occurs, holder}
 use Rattle.links.proofs.Counts.{occurs_append}
 use Rattle.links.proofs.Whole.{four}

@@ -1,17 +1,15 @@
 -- A place goes to a list other than that of the young, with a state that is not young: what always holds still does.
-use Rattle.std.proofs.Common.{◌≡◌, ℕ, zero, suc, ◌+◌, ◌-◌, ◌<◌, ◌≤◌, Bool, true, false, cond, ◌&&◌, eqb, ltb, ◌≢◌, ◌⊎◌, List, [], ◌∷◌, ◌++◌, map, length, get_or, set, sym, refl, ap, ◌∙◌, subst, inl, inr, arith, length-set}
+use Rattle.std.proofs.Common.{◌≡◌, ℕ, zero, suc, ◌<◌, ◌≤◌, false, ◌≢◌, List, map, length, get_or, set, sym, refl, ap, ◌∙◌, inl, inr, arith, length-set}
 use Rattle.std.proofs.lemmas.List.{get_or-set_same, get_or-set_other}
 use Rattle.std.proofs.lemmas.Bool.{cases_eq, eq-eqb, ne_eqb, lt-ltb}
 use Rattle.links.specs.declared.line.Line.{Line}
-use Rattle.links.specs.Lists.{lists, home_of, rehomed}
+use Rattle.links.specs.Lists.{lists, rehomed}
 use Rattle.links.specs.Rows.{occurs, without, fronted, backed, pushed_front, pushed_back, nth}
-use Rattle.links.proofs.Whole.{four}
-use Rattle.machine.specs.Replacement.{Resident}
 use Rattle.queues.specs.declared.slots.Slots.{Slots}
 use Rattle.queues.specs.declared.state.SlotState.{SlotState}
 use Rattle.queues.specs.declared.state.SlotState.TheVariants.{Plain}
-use Rattle.queues.specs.State.{is_young, seen}
-use Rattle.queues.specs.Slots.{list_of, home_in, state_of, age_of, since, rising}
+use Rattle.queues.specs.State.{is_young}
+use Rattle.queues.specs.Slots.{list_of, home_in, state_of, age_of}
 use Rattle.queues.specs.Held.{resident}
 use Rattle.queues.proofs.Maps.{map_same}
 use Rattle.queues.proofs.Sound.{Sound, opened_home, home_low, one_in_all, front_long, back_long, all_long, rising_without}

@@ -1,13 +1,12 @@
 -- A resident's place goes onto the free stack; a place that is no resident's stays where it is.
-use Rattle.std.proofs.Common.{◌≡◌, ℕ, zero, suc, ◌+◌, ◌<◌, ◌≤◌, Bool, true, false, cond, not, ◌||◌, eqb, ltb, ◌≢◌, ◌⊎◌, List, [], ◌∷◌, ◌++◌, map, length, replicate, filter, sym, refl, ap, ◌∙◌, subst, inl, inr, arith}
+use Rattle.std.proofs.Common.{◌≡◌, ℕ, ◌+◌, ◌<◌, ◌≤◌, Bool, true, false, cond, not, ◌||◌, eqb, List, [], ◌∷◌, ◌++◌, map, replicate, filter, refl, ap, ◌∙◌, arith}
 use Rattle.std.proofs.lemmas.List.{map-append}
 use Rattle.std.proofs.lemmas.Bool.{lt-ltb}
 use Rattle.links.specs.Lists.{lists}
 use Rattle.links.specs.Rows.{occurs, without, fronted, pushed_front, nth}
 use Rattle.links.proofs.Counts.{occurs_append, occurs_lost, without_absent, without_append}
-use Rattle.machine.specs.Replacement.{Resident, Parts}
+use Rattle.machine.specs.Replacement.{Parts}
 use Rattle.queues.specs.declared.slots.Slots.{Slots}
-use Rattle.queues.specs.declared.location.Location.{Location}
 use Rattle.queues.specs.declared.location.Location.TheVariants.{Free, Small, Main}
 use Rattle.queues.specs.declared.state.SlotState.{SlotState}
 use Rattle.queues.specs.Slots.{list_of, home_in}

@@ -1,19 +1,19 @@
 -- A newcomer takes its seat in Small, and the window of at most one other closes.
-use Rattle.std.proofs.Common.{◌≡◌, ℕ, zero, suc, ◌+◌, ◌-◌, ◌%◌, ◌<◌, ◌≤◌, Bool, true, false, cond, ◌&&◌, eqb, ltb, leb, ◌≢◌, ◌⊎◌, List, [], ◌∷◌, ◌++◌, map, length, get_or, set, Some, None, Option, sym, refl, ap, ◌∙◌, subst, inl, inr, arith, length-set}
+use Rattle.std.proofs.Common.{◌≡◌, ℕ, suc, ◌+◌, ◌<◌, ◌≤◌, true, false, leb, ◌≢◌, List, [], ◌∷◌, ◌++◌, map, length, get_or, Some, None, Option, sym, refl, ap, ◌∙◌, subst, inl, inr, arith, length-set}
 use Rattle.std.proofs.lemmas.List.{get_or-set_same, get_or-set_other, append_assoc}
-use Rattle.std.proofs.lemmas.Bool.{cases_eq, cases_lt, eq-eqb, ne_eqb, eqb-true, lt-ltb, le-ltb, le-leb, lt-leb, and_from}
+use Rattle.std.proofs.lemmas.Bool.{cases_eq, cases_lt, eq-eqb, ne_eqb, lt-ltb, le-ltb, le-leb, lt-leb}
 use Rattle.std.proofs.lemmas.Bool.Decides.{when_true, when_false}
-use Rattle.links.specs.Lists.{lists, rehomed}
-use Rattle.links.specs.Rows.{occurs, without, fronted, pushed_front, nth, last_of}
+use Rattle.links.specs.Lists.{lists}
+use Rattle.links.specs.Rows.{occurs, without, pushed_front, nth, last_of}
 use Rattle.links.proofs.Counts.{occurs_same, occurs_other, occurs_append, without_absent, without_first, without_last}
 use Rattle.machine.specs.declared.report.Part.TheVariants.{Small}
-use Rattle.machine.specs.Replacement.{Mark, young, plain, used, Resident, Parts, marked, aged}
+use Rattle.machine.specs.Replacement.{Mark, young, marked, aged}
 use Rattle.queues.specs.declared.slots.Slots.{Slots}
 use Rattle.queues.specs.declared.state.SlotState.{SlotState}
 use Rattle.queues.specs.declared.state.SlotState.TheVariants.{Plain, Young, Used}
 use Rattle.queues.specs.declared.state.Event.TheVariants.{WindowClosed}
 use Rattle.queues.specs.State.{met, seen, is_young}
-use Rattle.queues.specs.Slots.{list_of, home_in, state_of, age_of, since, rising}
+use Rattle.queues.specs.Slots.{list_of, home_in, state_of, age_of, rising}
 use Rattle.queues.specs.Seats.{Joined, Closed, closing}
 use Rattle.queues.specs.Held.{resident, parts_of}
 use Rattle.queues.specs.Steps.{seated_top}

@@ -1,18 +1,13 @@
 -- What always holds of the slots, and the moves of a place that keep it.
-use Rattle.std.proofs.Common.{◌≡◌, ℕ, zero, suc, ◌+◌, ◌-◌, ◌<◌, ◌≤◌, Bool, true, false, cond, ◌&&◌, eqb, ltb, leb, ◌≢◌, ◌⊎◌, List, [], ◌∷◌, ◌++◌, map, length, get_or, set, sym, refl, ap, ◌∙◌, subst, inl, inr, arith, length-append, length-set}
-use Rattle.std.proofs.lemmas.List.{get_or-set_same, get_or-set_other, get_or_past}
-use Rattle.std.proofs.lemmas.Bool.{cases_eq, cases_lt, eq-eqb, ne_eqb, lt-ltb, le-ltb, ltb-true, ltb-false, and_parts, and_from, le-leb, leb-true}
-use Rattle.links.specs.Lists.{lists, home_of}
+use Rattle.std.proofs.Common.{◌≡◌, ℕ, suc, ◌+◌, ◌<◌, ◌≤◌, true, false, cond, eqb, leb, List, [], ◌∷◌, map, length, sym, refl, ◌∙◌, inl, inr, arith, length-append}
+use Rattle.std.proofs.lemmas.Bool.{cases_lt, lt-ltb, ltb-true, and_parts, and_from, le-leb, leb-true}
 use Rattle.links.specs.Rows.{occurs, without, pushed_front, pushed_back, nth}
-use Rattle.links.proofs.Counts.{occurs_same, occurs_other, length_without}
+use Rattle.links.proofs.Counts.{length_without}
 use Rattle.links.proofs.Members.{stands, lacks, home_is, no_more, low_node}
 use Rattle.links.proofs.Whole.{four}
 use Rattle.queues.specs.declared.residents.Residents.{Residents}
 use Rattle.queues.specs.declared.slots.Slots.{Slots}
-use Rattle.queues.specs.declared.state.SlotState.{SlotState}
-use Rattle.queues.specs.declared.state.SlotState.TheVariants.{Plain}
-use Rattle.queues.specs.State.{is_young}
-use Rattle.queues.specs.Slots.{list_of, home_in, state_of, age_of, rising, Sized, Listed, Counted, Sorted, Recent, Rising}
+use Rattle.queues.specs.Slots.{list_of, home_in, age_of, rising, Sized, Listed, Counted, Sorted, Recent, Rising}
 
 -- the young are younger than b; b is the window, but for a moment while a newcomer is seated
 pub record Sound (b : ℕ) (s : Slots) : Type 0 where
@@ -120,10 +115,19 @@ none_in_all s p l =
 
 -- the ghost fields, as a function that writes the slots owes them
 abbrev pub Ghosts : Slots → Type 0
-Ghosts s = Sized s × (Listed s × (Counted s × (Sorted s × (Recent s × (Rising s × (((1 ≤ s.window) × (s.window ≤ 255)) × Unit {0}))))))
+Ghosts s =
+    record {
+      sized : Sized s;
+      listed : Listed s;
+      counted : Counted s;
+      sorted : Sorted s;
+      recent : Recent s;
+      rising : Rising s;
+      «open» : (1 ≤ s.window) × (s.window ≤ 255);
+    }
 
 pub ghosts : (s : Slots) → Sound s.window s → (1 ≤ s.window) × (s.window ≤ 255) → Ghosts s
-ghosts s h w = (h.sized, (h.listed, (h.counted, (h.sorted, (h.recent, (h.rising, (w, tt)))))))
+ghosts s h w = record { sized = h.sized; listed = h.listed; counted = h.counted; sorted = h.sorted; recent = h.recent; rising = h.rising; «open» = w }
 
 pub sound_of : (r : Residents) → Sound r.slots.window r.slots
 sound_of r =

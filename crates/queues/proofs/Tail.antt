@@ -1,9 +1,9 @@
 -- Small's tail: which place it is, and what stands before it.
-use Rattle.std.proofs.Common.{◌≡◌, ℕ, ◌+◌, ◌<◌, ◌≤◌, Bool, false, List, [], ◌∷◌, ◌++◌, map, Some, None, Option, sym, refl, ap, ◌∙◌, subst, arith}
+use Rattle.std.proofs.Common.{◌≡◌, ℕ, ◌<◌, List, [], ◌∷◌, ◌++◌, map, Some, None, Option, sym, refl, ap, ◌∙◌, arith}
 use Rattle.std.proofs.lemmas.List.{append-nil, append_assoc}
 use Rattle.links.specs.Rows.{occurs, last_or, last_of}
 use Rattle.links.proofs.Counts.{occurs_append, occurs_same}
-use Rattle.machine.specs.Replacement.{Resident, Ended, ended, is_tail_used}
+use Rattle.machine.specs.Replacement.{ended, is_tail_used}
 use Rattle.queues.specs.declared.slots.Slots.{Slots}
 use Rattle.queues.specs.State.{was_used}
 use Rattle.queues.specs.Slots.{list_of, home_in, state_of, age_of}

@@ -1,21 +1,21 @@
 -- A place goes to Main's end, plain: from Main's front, from Small's tail, or from the free stack.
-use Rattle.std.proofs.Common.{◌≡◌, ℕ, zero, suc, ◌+◌, ◌<◌, ◌≤◌, Bool, true, false, cond, eqb, ltb, ◌≢◌, ◌⊎◌, List, [], ◌∷◌, ◌++◌, map, length, Some, None, Option, sym, refl, ap, ◌∙◌, subst, inl, inr, arith}
+use Rattle.std.proofs.Common.{◌≡◌, ℕ, ◌+◌, ◌<◌, ◌≤◌, false, List, [], ◌∷◌, ◌++◌, map, length, Some, sym, refl, ap, ◌∙◌, inl, inr, arith}
 use Rattle.std.proofs.lemmas.List.{map-append}
 use Rattle.std.proofs.lemmas.Bool.{cases_eq, cases_lt, lt-ltb, ne_eqb}
 use Rattle.links.specs.Lists.{lists}
 use Rattle.links.specs.Rows.{occurs, without, backed, pushed_back, nth}
 use Rattle.links.proofs.Counts.{occurs_same, occurs_append, occurs_lost, without_absent, without_append, without_first, without_last}
 use Rattle.machine.specs.declared.report.Part.TheVariants.{Main}
-use Rattle.machine.specs.Replacement.{Mark, plain, used, Resident, Parts, ended, Ended, is_used, is_tail_used, marked}
+use Rattle.machine.specs.Replacement.{plain, ended, is_used}
 use Rattle.queues.specs.declared.slots.Slots.{Slots}
 use Rattle.queues.specs.declared.state.SlotState.{SlotState}
 use Rattle.queues.specs.declared.state.SlotState.TheVariants.{Plain, Young, Used}
 use Rattle.queues.specs.declared.state.Event.TheVariants.{Chance, Promotion}
 use Rattle.queues.specs.State.{met, seen, is_young, was_used}
-use Rattle.queues.specs.Slots.{list_of, home_in, state_of, age_of}
+use Rattle.queues.specs.Slots.{list_of, home_in, state_of}
 use Rattle.queues.specs.Held.{resident, parts_of}
-use Rattle.queues.specs.Steps.{passed, promoted, joins, seated_top}
-use Rattle.queues.proofs.Sound.{Sound, in_list, out_of_list, home_from, at_most_once, home_low}
+use Rattle.queues.specs.Steps.{passed, promoted, seated_top}
+use Rattle.queues.proofs.Sound.{Sound, out_of_list, home_from, at_most_once}
 use Rattle.queues.proofs.Moved.{Restated, residents_kept, state_here}
 use Rattle.queues.proofs.Ends.{ended_map}
 

@@ -1,6 +1,6 @@
 -- Main's hand, and a sweep as so many turns of it.
-use Rattle.std.proofs.Common.{◌≡◌, ℕ, zero, suc, ◌+◌, ◌-◌, ◌<◌, ◌≤◌, Bool, true, false, cond, List, [], ◌∷◌, ◌++◌, map, length, take, drop, Some, None, Option, sym, refl, ap, ◌∙◌, subst, add-one, arith}
-use Rattle.std.proofs.lemmas.List.{append-nil, append_assoc, map-append, length-append, length-map, take-append-drop}
+use Rattle.std.proofs.Common.{◌≡◌, ℕ, zero, suc, ◌+◌, ◌<◌, ◌≤◌, Bool, true, false, List, [], ◌∷◌, ◌++◌, map, length, take, drop, Some, None, Option, sym, refl, ap, ◌∙◌, add-one, arith}
+use Rattle.std.proofs.lemmas.List.{append_assoc, map-append, length-append, length-map, take-append-drop}
 use Rattle.links.specs.Rows.{occurs, first_of}
 use Rattle.links.proofs.Counts.{occurs_same}
 use Rattle.machine.specs.Replacement.{Resident, Parts, Swept, marked, plain, is_used, sweep_from, sweep}

@@ -1,16 +1,14 @@
 -- The next place never opened goes onto the free stack.
-use Rattle.std.proofs.Common.{◌≡◌, ℕ, zero, suc, ◌+◌, ◌<◌, ◌≤◌, Bool, true, false, cond, eqb, ltb, ◌≢◌, ◌⊎◌, List, [], ◌∷◌, ◌++◌, map, length, sym, refl, ap, ◌∙◌, subst, inl, inr, add-one, arith}
+use Rattle.std.proofs.Common.{◌≡◌, ℕ, ◌+◌, ◌<◌, ◌≤◌, List, ◌∷◌, sym, refl, ap, ◌∙◌, inl, inr, add-one, arith}
 use Rattle.std.proofs.lemmas.Bool.{cases_eq, cases_lt, eq-eqb, ne_eqb, lt-ltb, le-ltb, ltb-false}
 use Rattle.links.specs.declared.line.Line.{Line}
 use Rattle.links.specs.Lists.{lists, rehomed}
-use Rattle.links.specs.Rows.{occurs, without, fronted, pushed_front, nth}
+use Rattle.links.specs.Rows.{without, fronted, pushed_front, nth}
 use Rattle.links.proofs.Counts.{without_absent}
 use Rattle.queues.specs.declared.slots.Slots.{Slots}
-use Rattle.queues.specs.Slots.{list_of, home_in, state_of, age_of, rising}
-use Rattle.queues.specs.State.{is_young}
-use Rattle.queues.specs.Held.{resident, parts_of}
+use Rattle.queues.specs.Slots.{list_of, home_in}
+use Rattle.queues.specs.Held.{parts_of}
 use Rattle.queues.specs.Steps.{unlocked}
-use Rattle.queues.proofs.Maps.{map_same}
 use Rattle.queues.proofs.Sound.{Sound, none_in_all, out_of_list, front_long, all_long}
 
 abbrev pub widened : Slots → Line → Slots

@@ -1,6 +1,6 @@
 -- The residents as the machine sees them: the parts of its state, over places.
-use Rattle.std.specs.Prelude.{ℕ, Bool, true, false, cond, ◌||◌, List, [], ◌∷◌, ◌++◌, map, ◌==◌, nat_lt}
-use Rattle.machine.specs.Replacement.{Mark, Resident, Parts}
+use Rattle.std.specs.Prelude.{ℕ, Bool, false, cond, ◌||◌, List, [], ◌∷◌, ◌++◌, map, ◌==◌, nat_lt}
+use Rattle.machine.specs.Replacement.{Resident, Parts}
 use Rattle.queues.specs.declared.location.Location.{Location}
 use Rattle.queues.specs.declared.location.Location.TheVariants.{Free, Small, Main}
 use Rattle.queues.specs.declared.slots.Slots.{Slots}

@@ -1,5 +1,5 @@
 -- What seating a newcomer in Small writes, and what closing a window does.
-use Rattle.std.specs.Prelude.{◌≡◌, ℕ, ◌+◌, ◌%◌, List, Some, None, MatchBool, Option, nat_lt, slice_set}
+use Rattle.std.specs.Prelude.{◌≡◌, ℕ, ◌+◌, ◌%◌, Some, None, MatchBool, Option, nat_lt, slice_set}
 use Rattle.links.specs.Lists.{lists, rehomed}
 use Rattle.links.specs.Rows.{fronted}
 use Rattle.queues.specs.declared.slots.Slots.{Slots}

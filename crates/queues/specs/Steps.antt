@@ -1,9 +1,9 @@
 -- The steps of an insertion and of a sweep, as the machine takes them, over places.
-use Rattle.std.specs.Prelude.{ℕ, suc, Bool, cond, not, List, [], ◌∷◌, ◌++◌, map, Some, None, Option, nat_eq}
+use Rattle.std.specs.Prelude.{ℕ, suc, Bool, List, [], ◌∷◌, ◌++◌, map, Some, None, Option, nat_eq}
 use Rattle.machine.specs.declared.report.Part.{Part}
 use Rattle.machine.specs.declared.report.Part.TheVariants.{Small, Main}
 use Rattle.queues.specs.declared.selected.Selected.{Selected}
-use Rattle.machine.specs.Replacement.{Mark, young, plain, Resident, Parts, Swept, Ended, marked, aged, drops, is_used}
+use Rattle.machine.specs.Replacement.{young, plain, Resident, Parts, Swept, Ended, marked, aged, drops, is_used}
 
 -- a place, if it is resident, goes onto the free stack
 abbrev pub released : ℕ → Parts ℕ ℕ ℕ → Parts ℕ ℕ ℕ

@@ -1,7 +1,7 @@
 //! The queues of the replacement policy, over places: Small, Main and the free stack on one line of
 //! links, with the residents' marks.
+#![tactic(auto)]
 
-mod counts;
 pub mod location;
 mod main_ring;
 mod place;

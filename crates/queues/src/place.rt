@@ -1,6 +1,6 @@
 //! What is asked of a place and done to one.
 
-ghost use Rattle.std.specs.Prelude.{◌≡◌, ℕ, ◌<◌, ◌≤◌, max, if◌then◌else◌, nat_eq, nat_lt};
+ghost use Rattle.std.specs.Prelude.{◌≡◌, ℕ, ◌<◌, ◌≤◌, max, length, if◌then◌else◌, nat_eq, nat_lt};
 ghost use Rattle.links.specs.Rows.{first_of};
 ghost use Rattle.machine.specs.Replacement.{uses, nothing};
 ghost use Rattle.queues.specs.Held.{held, locate, part_at, resides};
@@ -48,6 +48,27 @@ impl Residents {
                 window: window.max(1),
             },
         }
+    }
+
+    /// How many residents Small has.
+    pub fn small_len(&self) -> usize
+        ensures { result ≡ length (held self.now).small }
+    {
+        self.slots.line.len(YOUNG) as usize + self.slots.line.len(OLD) as usize
+    }
+
+    /// How many residents Main has.
+    pub fn main_len(&self) -> usize
+        ensures { result ≡ length (held self.now).main }
+    {
+        self.slots.line.len(MAIN) as usize
+    }
+
+    /// How many places were ever opened.
+    pub fn opened(&self) -> u16
+        ensures { result ≡ (held self.now).opened }
+    {
+        self.slots.opened
     }
 
     /// The place on top of the free stack.

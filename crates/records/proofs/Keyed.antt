@@ -1,5 +1,5 @@
 -- Reading a key of a column after another was laid.
-use Rattle.std.proofs.Common.{◌≡◌, ℕ, zero, suc, ◌<◌, ◌≤◌, List, [], ◌∷◌, length, get_or, set, Some, None, Option, sym, refl, ap, ◌∙◌, le_of_suc-le-suc, arith}
+use Rattle.std.proofs.Common.{◌≡◌, ℕ, zero, suc, ◌<◌, ◌≤◌, List, [], ◌∷◌, length, get_or, set, Some, None, refl, ap, le_of_suc-le-suc, arith}
 use Rattle.records.specs.declared.column.Column.{Column}
 use Rattle.records.specs.declared.column.Column.TheVariants.{Resident, Remembered}
 use Rattle.records.specs.declared.record.Record.{Record}

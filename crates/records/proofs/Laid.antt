@@ -1,17 +1,16 @@
 -- A key laid in a record and filed in an index that is tied to places.
-use Rattle.std.proofs.Common.{◌≡◌, ℕ, zero, suc, ◌<◌, ◌≤◌, Bool, true, false, cond, ltb, ◌⊎◌, List, [], ◌∷◌, length, Some, None, Ok, Err, Option, Result, sym, refl, ap, ◌∙◌, subst, inl, inr, arith}
+use Rattle.std.proofs.Common.{◌≡◌, ℕ, suc, ◌<◌, cond, ltb, List, ◌∷◌, Some, Ok, Err, Result, sym, ap, ◌∙◌, subst, inl, inr, arith}
 use Rattle.std.specs.Option.{option_map}
 use Rattle.std.proofs.lemmas.Bool.Decides.{leb_tells}
 use Rattle.handles.specs.declared.refusal.TableRefusal.{TableRefusal}
 use Rattle.handles.specs.declared.refusal.TableRefusal.TheVariants.{Full}
-use Rattle.handle_laws.specs.Runs.{how_many}
 use Rattle.index.specs.declared.index.KeyIndex.{KeyIndex}
 use Rattle.index.specs.Filed.{is_key, bears, size, Files}
 use Rattle.index.specs.Ties.{occurs, Ties, TiesIn}
 use Rattle.index.proofs.Joined.{ties_laid, same_count}
 use Rattle.records.specs.declared.column.Column.{Column}
 use Rattle.records.specs.declared.record.Record.{Record}
-use Rattle.records.specs.Columns.{key_at_lem, word_at, keyed, Lays, TiedLay}
+use Rattle.records.specs.Columns.{word_at, keyed, Lays, TiedLay}
 use Rattle.records.proofs.Keyed.{key_here, key_elsewhere}
 
 module _ {K V : Type 0} (mean : K → List ℕ) (i j : KeyIndex) (rs : List (Record K V)) (column : Column) (place hash : ℕ) (key : K) (r : Result (Unit {0}) TableRefusal) where

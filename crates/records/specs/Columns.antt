@@ -1,5 +1,5 @@
 -- The keys in records, and what laying one does to its column's index.
-use Rattle.std.specs.Prelude.{◌≡◌, ℕ, zero, suc, ◌<◌, Bool, true, false, cond, List, [], ◌∷◌, length, Some, None, Ok, Err, Option, Result, nat_lt}
+use Rattle.std.specs.Prelude.{◌≡◌, ℕ, zero, suc, ◌<◌, cond, List, [], ◌∷◌, length, Some, None, Ok, Option, Result, nat_lt}
 use Rattle.std.specs.Option.{option_map}
 use Rattle.handles.specs.declared.refusal.TableRefusal.{TableRefusal}
 use Rattle.handle_laws.specs.Runs.{how_many}

@@ -1,5 +1,6 @@
 //! The records that a cache is lent, and its keys in them: in one column the residents' keys, in another those that Ghost
 //! remembers. A key is laid in a record and filed in the column's index together.
+#![tactic(auto)]
 
 mod column;
 mod filing;

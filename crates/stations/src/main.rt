@@ -1,6 +1,7 @@
 //! `stations kind=number sheet=FILE KEY ..`: where the stations of a survey sheet lie.
 //!
 //! A later `kind=` or `sheet=` holds for the keys after it.
+#![tactic(auto)]
 
 use anyhow::{Context, anyhow};
 use keys::choice::{KeyKind, read_kind};

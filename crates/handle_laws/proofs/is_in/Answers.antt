@@ -1,7 +1,7 @@
-use Rattle.std.proofs.Common.{◌≡◌, Bool, true, ltb, ◌∷◌, ◌++◌, is_some, sym, ap, ◌∙◌}
+use Rattle.std.proofs.Common.{◌≡◌, ltb, is_some, sym, ap, ◌∙◌}
 use Rattle.handles.specs.Meaning.{alike}
-use Rattle.handles.specs.Seek.{candidates, first_by}
-use Rattle.handle_laws.specs.Runs.{times_read, insert}
+use Rattle.handles.specs.Seek.{candidates}
+use Rattle.handle_laws.specs.Runs.{times_read}
 use Rattle.handle_laws.proofs.Laws.{reads, stays, some_first, some_when}
 use Rattle.handle_laws.proofs.is_in.Goals as goal
 

@@ -8,7 +8,8 @@ use Rattle.cache_core.proofs.Standing.{place_within}
 use Rattle.records.specs.declared.column.Column.TheVariants.{Resident}
 use Rattle.cache_core.proofs.Only.{passes}
 use Rattle.cache_calls.specs.Calls.{newcomer}
-use Rattle.cache_calls.proofs.Lying.{value_kept, value_any, long_kept}
+use Rattle.cache_core.proofs.Bare.{long_kept}
+use Rattle.cache_calls.proofs.Lying.{value_kept, value_any}
 use Rattle.cache_calls.proofs.inserting.claim_place.Goals as goal
 
 pub returns : goal.returns

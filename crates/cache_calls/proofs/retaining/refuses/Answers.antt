@@ -9,8 +9,8 @@ returns-then-place-records g c =
     let p = c.args.place in
     let rule = c.args.rule.now in
     record {
-      answer = refused_past {K = g.row.K.Denot} {V = g.row.V.Denot} mean (g.R.KeepRule.keeps rule) rs p c.if-place-records.true;
-      asked = asked_past {K = g.row.K.Denot} {V = g.row.V.Denot} mean g.R.KeepRule.after rs p rule c.if-place-records.true;
+      answer = refused_past {K = g.row.K.Denot} {V = g.row.V.Denot} mean (g.R.AskedKeepRule.keeps rule) rs p c.if-place-records.true;
+      asked = asked_past {K = g.row.K.Denot} {V = g.row.V.Denot} mean g.R.AskedKeepRule.after rs p rule c.if-place-records.true;
       meaning = refl;
     }
 
@@ -22,7 +22,7 @@ returns g c =
     let rule = c.args.rule.now in
     let x = c.index-records-place.result in
     record {
-      answer = ap not c.keep.ensures.answers ∙ refused_at {K = g.row.K.Denot} {V = g.row.V.Denot} mean (g.R.KeepRule.keeps rule) rs p x c.index-records-place.is c.if-place-records.false;
-      asked = c.keep.ensures.asked ∙ asked_here {K = g.row.K.Denot} {V = g.row.V.Denot} mean g.R.KeepRule.after rs p rule x c.index-records-place.is c.if-place-records.false;
+      answer = ap not c.keep.ensures.answers ∙ refused_at {K = g.row.K.Denot} {V = g.row.V.Denot} mean (g.R.AskedKeepRule.keeps rule) rs p x c.index-records-place.is c.if-place-records.false;
+      asked = c.keep.ensures.asked ∙ asked_here {K = g.row.K.Denot} {V = g.row.V.Denot} mean g.R.AskedKeepRule.after rs p rule x c.index-records-place.is c.if-place-records.false;
       meaning = c.keep.ensures.meaning;
     }

@@ -6,7 +6,7 @@ use Rattle.policy.specs.View.{view, flagged}
 use Rattle.index.specs.declared.index.KeyIndex.{KeyIndex}
 use Rattle.records.specs.declared.record.Record.{Record}
 use Rattle.cache_core.specs.View.{seen}
-use Rattle.cache_core.specs.Tied.{Tied}
+use Rattle.cache_core.specs.Tied.{TiedWithin}
 use Rattle.cache_core.proofs.Standing.{orderly}
 use Rattle.cache_calls.proofs.Sifted.{Midway, asked_to, start, turn, none_up}
 use Rattle.cache_calls.proofs.Retained.{retained_state, retained_tied, asked_once}
@@ -14,7 +14,7 @@ use Rattle.cache_calls.proofs.retaining.retain.Goals as goal
 
 pub places-init : goal.places-init
 places-init g c =
-    start {K = g.row.K.Denot} {V = g.row.V.Denot} {R = g.row.R.Denot} g.K.Key.meaning g.K.HashedKey.hashed g.R.KeepRule.keeps g.R.KeepRule.after c.args.inner.now c.args.rule.now _ (length-replicate 512 false) (none_up 512)
+    start {K = g.row.K.Denot} {V = g.row.V.Denot} {R = g.row.R.Denot} g.K.Key.meaning g.K.HashedKey.hashed g.R.AskedKeepRule.keeps g.R.AskedKeepRule.after c.args.inner.now c.args.rule.now _ (length-replicate 512 false) (none_up 512)
 
 pub sift-requires : goal.sift-requires
 sift-requires g c =
@@ -28,8 +28,8 @@ pub places-preserved : goal.places-preserved
 places-preserved g c =
     let mean = g.K.Key.meaning in
     let hashed = g.K.HashedKey.hashed in
-    let keeps = g.R.KeepRule.keeps in
-    let after = g.R.KeepRule.after in
+    let keeps = g.R.AskedKeepRule.keeps in
+    let after = g.R.AskedKeepRule.after in
     let n = c.places.place in
     let o = orderly c.args.inner.now.policy in
     let low : n < 512 = (let a = o.opened in let b = o.low in let e = c.opened-opened.ensures in omega arith) in
@@ -40,8 +40,8 @@ pub returns : goal.returns
 returns g c =
     let mean = g.K.Key.meaning in
     let hashed = g.K.HashedKey.hashed in
-    let keeps = g.R.KeepRule.keeps in
-    let after = g.R.KeepRule.after in
+    let keeps = g.R.AskedKeepRule.keeps in
+    let after = g.R.AskedKeepRule.after in
     let x = c.args.inner.now in
     let rule = c.args.rule.now in
     let rs = x.records.now in
@@ -64,10 +64,10 @@ returns g c =
               ∙ ap (λ (l : List (Record g.row.K.Denot g.row.V.Denot)). seen mean d l (view q.core)) (sym m.kept.0))) k,
           tt,
         ),
-        subst (λ (i : ℕ). Tied {K = g.row.K.Denot} {V = g.row.V.Denot} mean hashed i y.records.now (view q.core) y.residents y.remembered) (sym capacity)
-            (subst (λ (l : List (Record g.row.K.Denot g.row.V.Denot)). Tied mean hashed x.policy.core.capacity l (view q.core) y.residents y.remembered) (sym m.kept.0)
-            (subst (λ (p : Parts ℕ ℕ ℕ). Tied {K = g.row.K.Denot} {V = g.row.V.Denot} mean hashed x.policy.core.capacity rs p y.residents y.remembered) (sym parts)
-            (subst (λ (j : KeyIndex). Tied {K = g.row.K.Denot} {V = g.row.V.Denot} mean hashed x.policy.core.capacity rs (drops (highest_first (λ p. p)) (λ p. p) (flagged flags) s) y.residents j) (sym m.kept.1.1)
+        subst (λ (i : ℕ). TiedWithin {K = g.row.K.Denot} {V = g.row.V.Denot} mean hashed i y.records.now (view q.core) y.residents y.remembered) (sym capacity)
+            (subst (λ (l : List (Record g.row.K.Denot g.row.V.Denot)). TiedWithin mean hashed x.policy.core.capacity l (view q.core) y.residents y.remembered) (sym m.kept.0)
+            (subst (λ (p : Parts ℕ ℕ ℕ). TiedWithin {K = g.row.K.Denot} {V = g.row.V.Denot} mean hashed x.policy.core.capacity rs p y.residents y.remembered) (sym parts)
+            (subst (λ (j : KeyIndex). TiedWithin {K = g.row.K.Denot} {V = g.row.V.Denot} mean hashed x.policy.core.capacity rs (drops (highest_first (λ p. p)) (λ p. p) (flagged flags) s) y.residents j) (sym m.kept.1.1)
             (retained_tied {K = g.row.K.Denot} {V = g.row.V.Denot} {R = g.row.R.Denot} mean hashed keeps after x rule t n all y c.places.rule flags m)))),
       );
       asked = λ t d.

@@ -1,9 +1,8 @@
-use Rattle.std.proofs.Common.{◌≡◌, ℕ, ◌+◌, ◌<◌, ◌≤◌, true, List, length, sym, refl, ap, ◌∙◌, subst, arith}
+use Rattle.std.proofs.Common.{◌≡◌, ℕ, ◌+◌, ◌≤◌, true, List, length, sym, refl, ap, ◌∙◌, subst, arith}
 use Rattle.handles.specs.Slots.{Sound, occupied, room, allowed}
-use Rattle.handles.specs.Shift.{cleared, inserted}
+use Rattle.handles.specs.Shift.{inserted}
 use Rattle.handles.specs.Calls.{rebuilt}
 use Rattle.handles.specs.declared.slot.Slot.{Slot}
-use Rattle.handles.proofs.Pushing.{Ring}
 use Rattle.handles.proofs.Placing.{cleared_sound, cleared_occupied, roomy_ring}
 use Rattle.handles.proofs.Rebuilding.{Midway, midway_room, midway_place, midway_pass, midway_end}
 use Rattle.handles.proofs.calls.rebuild.Goals as goal

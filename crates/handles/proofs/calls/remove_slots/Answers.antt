@@ -1,4 +1,4 @@
-use Rattle.std.proofs.Common.{◌≡◌, ℕ, ◌+◌, ◌-◌, ◌%◌, ◌<◌, length, Some, None, sym, refl, ◌∙◌, arith}
+use Rattle.std.proofs.Common.{◌+◌, ◌-◌, length, Some, None}
 use lib.Bits.{bit_and}
 use Rattle.handles.specs.Slots.{empty}
 use Rattle.handles.proofs.Ring.{masked}

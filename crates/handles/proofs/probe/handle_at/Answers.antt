@@ -1,4 +1,4 @@
-use Rattle.std.proofs.Common.{◌≡◌, ℕ, ◌+◌, ◌-◌, ◌%◌, ◌<◌, length, get_or, sym, refl, ap, ◌∙◌, mod-lt, arith}
+use Rattle.std.proofs.Common.{ℕ, ◌+◌, ◌%◌, ◌<◌, length, get_or, ap, ◌∙◌, mod-lt, arith}
 use Rattle.std.proofs.lemmas.List.{get_or_default}
 use Rattle.handles.proofs.Ring.{masked}
 use Rattle.handles.specs.declared.slot.Slot.{Slot}

@@ -1,4 +1,4 @@
-use Rattle.std.proofs.Common.{◌≡◌, ℕ, ◌+◌, ◌-◌, ◌<◌, ◌≤◌, true, false, length, Some, sym, refl, ◌∙◌, arith}
+use Rattle.std.proofs.Common.{◌≡◌, ◌+◌, ◌-◌, ◌<◌, ◌≤◌, true, false, length, Some, sym, refl, ◌∙◌, arith}
 use Rattle.handles.specs.Slots.{rank, rank_of}
 use Rattle.handles.proofs.Ring.{masked, power}
 use Rattle.handles.proofs.Seeking.{seek_short, seek_stop, seek_turn, read_rank, hits, hits_both, hits_meta, hits_not}

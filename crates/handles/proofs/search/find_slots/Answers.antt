@@ -1,6 +1,6 @@
-use Rattle.std.proofs.Common.{◌≡◌, ℕ, ◌<◌, ◌≤◌, length, sym, refl, ap, ◌∙◌, arith}
+use Rattle.std.proofs.Common.{sym, ap}
 use Rattle.handles.specs.Seek.{first_by}
-use Rattle.handles.proofs.Placing.{roomy_pos, sound_some}
+use Rattle.handles.proofs.Placing.{sound_some}
 use Rattle.handles.proofs.Reading.{empty_candidates, find_some, find_none}
 use Rattle.handles.proofs.search.find_slots.Goals as goal
 

@@ -1,8 +1,8 @@
-use Rattle.std.proofs.Common.{◌≡◌, ℕ, ◌+◌, ◌-◌, ◌%◌, ◌<◌, ◌≤◌, length, sym, refl, ◌∙◌, mod-lt, arith, rules}
+use Rattle.std.proofs.Common.{◌+◌, ◌-◌, ◌<◌, ◌≤◌, length, refl, ◌∙◌, mod-lt, arith, rules}
 use lib.Bits.{bit_and}
 use Rattle.handles.specs.Slots.{rank_of}
 use Rattle.handles.proofs.Ring.{masked}
-use Rattle.handles.proofs.Pushing.{Ring, ring_made, ring_pos}
+use Rattle.handles.proofs.Pushing.{ring_made, ring_pos}
 use Rattle.handles.proofs.Pulling.{pull_turn, pull_last}
 use Rattle.handles.proofs.shift.pull_back.Goals as goal
 
@@ -14,8 +14,8 @@ run-init g c = (
   λ d. refl,
 )
 
-pub offset-bounds-slots-next : goal.offset-bounds-slots-next
-offset-bounds-slots-next g c =
+pub offset_bounds-slots-next : goal.offset_bounds-slots-next
+offset_bounds-slots-next g c =
     let n = length c.args.slots.now in
     let pos = ring_pos n c.run.slots c.run.invariant.0 in
     let m = masked n (c.run.hole + 1) c.requires.size pos in

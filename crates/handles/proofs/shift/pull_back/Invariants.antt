@@ -1,4 +1,4 @@
-use Rattle.std.proofs.Common.{◌≡◌, ◌+◌, ◌%◌, ◌<◌, length}
+use Rattle.std.proofs.Common.{◌≡◌, ◌+◌, ◌<◌, length}
 use Rattle.handles.specs.Slots.{rank}
 use Rattle.handles.specs.Shift.{pulled, away}
 use Rattle.handles.specs.declared.slot.Slot.{Slot}

@@ -1,6 +1,6 @@
-use Rattle.std.proofs.Common.{◌≡◌, ◌+◌, ◌-◌, ◌%◌, length, sym, refl, ◌∙◌, arith}
+use Rattle.std.proofs.Common.{◌+◌, length, refl, ◌∙◌}
 use Rattle.handles.proofs.Ring.{masked}
-use Rattle.handles.proofs.Pushing.{Ring, ring_made, ring_pos, push_turn, push_last, push_fits}
+use Rattle.handles.proofs.Pushing.{ring_made, ring_pos, push_turn, push_last, push_fits}
 use Rattle.handles.proofs.shift.push_forward.Goals as goal
 
 pub run-init : goal.run-init
@@ -11,8 +11,8 @@ run-init g c = (
   refl,
 )
 
-pub overflow-add-carried : goal.overflow-add-carried
-overflow-add-carried g c =
+pub overflow_add-carried : goal.overflow_add-carried
+overflow_add-carried g c =
     let h = push_fits (length c.args.slots.now) c.run.slots c.run.slot c.index-slots-slot.result
     c.run.invariant.0 c.run.invariant.2 c.index-slots-slot.is c.if-displaced.false in
     record { fits = h }

@@ -1,4 +1,4 @@
-use Rattle.std.proofs.Common.{◌≡◌, ◌+◌, ◌%◌, ◌<◌, length}
+use Rattle.std.proofs.Common.{◌≡◌, ◌<◌, length}
 use Rattle.handles.specs.Shift.{pushed, run}
 use Rattle.handles.specs.Carry.{Carries}
 use Rattle.handles.proofs.Pushing.{Ring}

@@ -1,4 +1,4 @@
-use Rattle.std.proofs.Common.{◌≡◌, ℕ, List, sym, subst, arith, rules}
+use Rattle.std.proofs.Common.{List, sym, subst, rules}
 use Rattle.handles.specs.Slots.{Sound}
 use Rattle.handles.specs.declared.slot.Slot.{Slot}
 use Rattle.handles.proofs.Placing.{cleared_sound}

@@ -1,16 +1,16 @@
-use Rattle.std.proofs.Common.{◌≡◌, ℕ, List, length, Ok, Result, sym, refl, ap, ◌∙◌, subst, arith, Bor, rules}
+use Rattle.std.proofs.Common.{◌≡◌, ℕ, List, length, Ok, Result, sym, ap, ◌∙◌, subst, rules, MutBor}
 use Rattle.handles.specs.Calls.{reserve_answer_lem}
 use Rattle.handles.specs.declared.refusal.Reserved.{Reserved}
 use Rattle.handles.specs.declared.refusal.Reserved.TheVariants.{Rebuilt}
 use Rattle.handles.specs.declared.refusal.TableRefusal.{TableRefusal}
-use Rattle.handles.specs.Slots.{Sound, room, occupied}
+use Rattle.handles.specs.Slots.{Sound, room}
 use Rattle.handles.specs.declared.slot.Slot.{Slot}
 use Rattle.handles.proofs.table.reserve_in.Goals as goal
 
 pub returns-in-Ok-Rebuilt : goal.returns-in-Ok-Rebuilt
 returns-in-Ok-Rebuilt g c =
-    let x : c.swap.new.x.now ≡ c.rebuild_in.new.fresh.now = ap (λ (z : Bor (List (Slot g.row.X.Denot))). z.now) c.swap.ensures.x-after in
-    let y : c.swap.new.y.now ≡ c.args.inner.now.slots.now = ap (λ (z : Bor (List (Slot g.row.X.Denot))). z.now) c.swap.ensures.y-after in
+    let x : c.swap.new.x.now ≡ c.rebuild_in.new.fresh.now = ap (λ (z : MutBor (List (Slot g.row.X.Denot))). z.now) c.swap.ensures.x_after in
+    let y : c.swap.new.y.now ≡ c.args.inner.now.slots.now = ap (λ (z : MutBor (List (Slot g.row.X.Denot))). z.now) c.swap.ensures.y_after in
     let good : Sound c.rebuild_in.new.fresh.now c.args.inner.now.len =
     subst (λ (n : ℕ). Sound c.rebuild_in.new.fresh.now n) c.requires.sound.1 c.rebuild_in.ensures.sound in
     record {

@@ -3,8 +3,8 @@ use Rattle.queues.proofs.Sound.{opened_low}
 use Rattle.policy.proofs.Readiness.{everybody}
 use Rattle.policy.proofs.insert.has_vacancy.Goals as goal
 
-pub overflow-add-result : goal.overflow-add-result
-overflow-add-result c =
+pub overflow_add-result : goal.overflow_add-result
+overflow_add-result c =
     let e = everybody c.args.core.now in
     let o = opened_low c.args.core.now.residents.slots c.args.core.now.residents.listed in
     let a = c.small_len.ensures in

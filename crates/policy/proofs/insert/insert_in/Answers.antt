@@ -1,5 +1,5 @@
-use Rattle.std.proofs.Common.{◌≡◌, ℕ, ◌≤◌, ◌&&◌, ◌||◌, eqb, leb, length, sym, refl, ap, ◌∙◌, arith}
-use Rattle.machine.specs.Limits.{small_limit, window}
+use Rattle.std.proofs.Common.{ℕ, ◌&&◌, ◌||◌, eqb, leb, length, ap, ◌∙◌, arith}
+use Rattle.machine.specs.Limits.{small_limit}
 use Rattle.queues.specs.Held.{held}
 use Rattle.ghosts.specs.Remembered.{remembered}
 use Rattle.policy.specs.View.{view}

@@ -1,4 +1,4 @@
-use Rattle.std.proofs.Common.{◌≡◌, ℕ, sym, refl, ap, ◌∙◌, arith}
+use Rattle.std.proofs.Common.{◌≡◌, ℕ, refl, ap, ◌∙◌, arith}
 use Rattle.queues.specs.declared.residents.Residents.{Residents}
 use Rattle.queues.specs.Held.{held}
 use Rattle.queues.specs.Steps.{released}

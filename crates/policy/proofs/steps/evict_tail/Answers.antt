@@ -1,8 +1,5 @@
-use Rattle.std.proofs.Common.{◌≡◌, ℕ, sym, refl, ap, ◌∙◌}
-use Rattle.machine.specs.Replacement.{Parts, ended}
-use Rattle.queues.specs.Held.{held}
+use Rattle.std.proofs.Common.{refl}
 use Rattle.ghosts.specs.Remembered.{remembered}
-use Rattle.policy.specs.View.{noting}
 use Rattle.policy.proofs.Outs.{tail_evicted_lem}
 use Rattle.policy.proofs.steps.evict_tail.Goals as goal
 
@@ -12,7 +9,7 @@ returns c =
     let g = c.args.core.now.ghosts in
     record {
       evicted =
-          tail_evicted_lem q c.release.new.self c.in-ok-tail.tail g.notes.capacity (remembered g) (remembered c.push.new.self) c.push.result
-          c.in-ok-tail.ensures c.release.ensures.held c.push.ensures.pushed;
+          tail_evicted_lem q c.release.new.self c.in_ok-tail.tail g.notes.capacity (remembered g) (remembered c.push.new.self) c.push.result
+          c.in_ok-tail.ensures c.release.ensures.held c.push.ensures.pushed;
       same = (refl, refl, refl, c.release.ensures.window, c.push.ensures.capacity);
     }

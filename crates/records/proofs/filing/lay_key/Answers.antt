@@ -9,6 +9,6 @@ returns g c =
     let j = c.file.new.self in
     let rs = c.args.records.now in
     let qs = c.set_key.new.records in
-    let f = c.in-ok-file.ensures in
+    let f = c.in_ok-file.ensures in
     let done = lays_done {K = g.row.K.Denot} {V = g.row.V.Denot} mean i j rs c.args.column c.args.place c.args.hash c.args.key (Ok tt) qs refl f.files c.set_key.ensures in
     record { lays = done; tied = lays_tied {K = g.row.K.Denot} {V = g.row.V.Denot} mean i j rs c.args.column c.args.place c.args.hash c.args.key (Ok tt) qs done.records f.tied }

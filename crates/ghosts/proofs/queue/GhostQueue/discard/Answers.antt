@@ -1,4 +1,4 @@
-use Rattle.std.proofs.Common.{◌≡◌, sym, refl, ◌∙◌, arith}
+use Rattle.std.proofs.Common.{sym, refl, ◌∙◌, arith}
 use Rattle.links.proofs.Counts.{without_absent}
 use Rattle.links.proofs.Members.{low_node}
 use Rattle.ghosts.specs.Notes.{note_list}

@@ -1,6 +1,5 @@
-use Rattle.std.proofs.Common.{◌≡◌, sym, refl, ◌∙◌, arith}
+use Rattle.std.proofs.Common.{refl, arith}
 use Rattle.links.proofs.Members.{low_node}
-use Rattle.ghosts.specs.Notes.{note_list}
 use Rattle.ghosts.proofs.Moves.{moved, fresh, pushed_new, pushed_old, spare_home, oldest_home, no_spare}
 use Rattle.ghosts.proofs.queue.GhostQueue.push.Goals as goal
 
@@ -44,17 +43,17 @@ pub invariant_of-self-2 : goal.invariant_of-self-2
 invariant_of-self-2 c =
     let g = c.args.self.now in
     let n = g.notes in
-    let p = c.in-ok-node.node in
-    let h = oldest_home n p c.in-ok-node.ensures in
+    let p = c.in_ok-node.node in
+    let h = oldest_home n p c.in_ok-node.ensures in
     moved n g.counted g.unopened g.within c.push_front-2.new.self p 0 (omega arith) (low_node n.line p (omega arith)) c.push_front-2.ensures.lists c.push_front-2.ensures.homes (omega arith)
 
 pub returns : goal.returns
 returns c =
     let g = c.args.self.now in
     let n = g.notes in
-    let p = c.in-ok-node.node in
-    let h = oldest_home n p c.in-ok-node.ensures in
+    let p = c.in_ok-node.node in
+    let h = oldest_home n p c.in_ok-node.ensures in
     let a = g.counted in
     let b = g.within.0 in
     let s = no_spare n c.in_default.ensures in
-    record { pushed = pushed_old n a g.unopened g.within c.push_front-2.new.self p (low_node n.line p (omega arith)) c.push_front-2.ensures.lists c.in-ok-node.ensures (omega arith); capacity = refl }
+    record { pushed = pushed_old n a g.unopened g.within c.push_front-2.new.self p (low_node n.line p (omega arith)) c.push_front-2.ensures.lists c.in_ok-node.ensures (omega arith); capacity = refl }

@@ -7,4 +7,4 @@ use Rattle.handles.proofs.places.PlaceTable.clear.Goals as goal
 
 pub invariant_of-self : goal.invariant_of-self
 invariant_of-self c =
-    (subst (λ (xs : List (Slot Place)). Sound xs 0) (sym c.empty_all.ensures) (cleared_sound c.args.self.now.slots), (omega arith, tt))
+    record { sound = subst (λ (xs : List (Slot Place)). Sound xs 0) (sym c.empty_all.ensures) (cleared_sound c.args.self.now.slots); sized = omega arith }

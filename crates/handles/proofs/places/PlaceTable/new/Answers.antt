@@ -4,4 +4,4 @@ use Rattle.handles.specs.declared.kinds.Place.{Place}
 use Rattle.handles.proofs.places.PlaceTable.new.Goals as goal
 
 pub invariant_of-result : goal.invariant_of-result
-invariant_of-result c = (vacant_sound {X = Place} 1024 (record { 0 = 0 }), (refl, tt))
+invariant_of-result c = record { sound = vacant_sound {X = Place} 1024 (record { 0 = 0 }); sized = refl }

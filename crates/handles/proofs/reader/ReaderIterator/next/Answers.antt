@@ -1,4 +1,4 @@
-use Rattle.std.proofs.Common.{ℕ, ◌<◌, length, arith, rules}
+use Rattle.std.proofs.Common.{rules}
 use Rattle.handles.proofs.Reading.{next_some, next_none}
 use Rattle.handles.proofs.reader.ReaderIterator.next.Goals as goal
 

@@ -1,4 +1,4 @@
-use Rattle.std.proofs.Common.{◌≡◌, ap, ◌∙◌}
+use Rattle.std.proofs.Common.{ap, ◌∙◌}
 use Rattle.handles.proofs.Meaning.{alike_is}
 use Rattle.index.specs.Filed.{is_key}
 use Rattle.index.proofs.search.PlaceOfSoughtPlace.matches.Goals as goal

@@ -1,5 +1,4 @@
-use Rattle.std.proofs.Common.{◌≡◌, ℕ, ◌+◌, ◌<◌, ◌≤◌, length, get_or, sym, ◌∙◌, arith, rules}
-use Rattle.std.proofs.lemmas.List.{get_or_default, get_or_past}
+use Rattle.std.proofs.Common.{arith}
 use Rattle.links.proofs.line.Line.last.Goals as goal
 use Rattle.links.proofs.Found.{last_is}
 

@@ -1,6 +1,6 @@
-use Rattle.std.proofs.Common.{◌≡◌, ℕ, ◌+◌, ◌<◌, ◌≤◌, cond, eqb, length, get_or, replicate, sym, refl, ◌∙◌, inl, inr, arith, rules}
+use Rattle.std.proofs.Common.{◌≡◌, ℕ, ◌<◌, cond, eqb, get_or, replicate, refl, inl, inr, arith}
 use lib.ListN.{get_or-replicate}
-use Rattle.std.proofs.lemmas.List.{get_or_default, get_or_past, length-replicate}
+use Rattle.std.proofs.lemmas.List.{get_or_past, length-replicate}
 use Rattle.std.proofs.lemmas.Bool.{cases_lt, ne_eqb}
 use Rattle.links.proofs.Whole.{four}
 use Rattle.links.proofs.line.Line.new.Goals as goal
@@ -16,13 +16,11 @@ none : (p k : ℕ) → k < 4 → ◌≡◌ {A = ℕ} 0 (cond (eqb (get_or (repli
 none p k l = rw (nowhere p, ne_eqb 4 k (λ e. omega arith))
 
 pub invariant_of-result : goal.invariant_of-result
-invariant_of-result c = (
-  (refl, refl, refl, refl),
-  (
-    four _ refl refl refl refl,
-    (λ p. four _ (none p 0 (omega arith)) (none p 1 (omega arith)) (none p 2 (omega arith)) (none p 3 (omega arith)), tt),
-  ),
-)
+invariant_of-result c = record {
+  sized = (refl, refl, refl, refl);
+  linked = four _ refl refl refl refl;
+  once = λ p. four _ (none p 0 (omega arith)) (none p 1 (omega arith)) (none p 2 (omega arith)) (none p 3 (omega arith));
+}
 
 pub returns : goal.returns
 returns c = record { lists = refl; homes = nowhere }

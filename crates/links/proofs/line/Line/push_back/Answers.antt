@@ -1,7 +1,6 @@
-use Rattle.std.proofs.Common.{◌≡◌, ℕ, ◌+◌, ◌<◌, ◌≤◌, length, get_or, sym, ◌∙◌, arith, rules}
-use Rattle.std.proofs.lemmas.List.{get_or_default, get_or_past}
+use Rattle.std.proofs.Common.{arith}
 use Rattle.links.proofs.line.Line.push_back.Goals as goal
-use Rattle.links.proofs.Pushes.{left_ok, right_ok, counted_ok, room_ok, after_ok, before_ok, back_sized, back_linked, back_once, back_lists, back_homes}
+use Rattle.links.proofs.Pushes.{left_ok, right_ok, counted_ok, room_ok, before_ok, back_sized, back_linked, back_once, back_lists, back_homes}
 
 pub detach-requires : goal.detach-requires
 detach-requires c =
@@ -32,13 +31,12 @@ pub invariant_of-self : goal.invariant_of-self
 invariant_of-self c =
     let z = c.args.self.now.sized in
     let l = c.args.self.now.linked in
-    let o = c.args.self.now.once in (
-      back_sized c.args.self.now.cells z l o c.args.node c.args.list (omega arith) (omega arith) c.detach.new.cells c.detach.ensures c.attach.new.cells c.attach.ensures,
-      (
-        back_linked c.args.self.now.cells z l o c.args.node c.args.list (omega arith) (omega arith) c.detach.new.cells c.detach.ensures c.attach.new.cells c.attach.ensures,
-        (back_once c.args.self.now.cells z l o c.args.node c.args.list (omega arith) (omega arith) c.detach.new.cells c.detach.ensures c.attach.new.cells c.attach.ensures, tt),
-      ),
-    )
+    let o = c.args.self.now.once in
+    record {
+      sized = back_sized c.args.self.now.cells z l o c.args.node c.args.list (omega arith) (omega arith) c.detach.new.cells c.detach.ensures c.attach.new.cells c.attach.ensures;
+      linked = back_linked c.args.self.now.cells z l o c.args.node c.args.list (omega arith) (omega arith) c.detach.new.cells c.detach.ensures c.attach.new.cells c.attach.ensures;
+      once = back_once c.args.self.now.cells z l o c.args.node c.args.list (omega arith) (omega arith) c.detach.new.cells c.detach.ensures c.attach.new.cells c.attach.ensures;
+    }
 
 pub returns-then-list-lt-LISTS : goal.returns-then-list-lt-LISTS
 returns-then-list-lt-LISTS c =

@@ -1,4 +1,4 @@
-use Rattle.std.proofs.Common.{◌≡◌, ℕ, List, refl, ap, ◌∙◌}
+use Rattle.std.proofs.Common.{ℕ, List, refl, ap, ◌∙◌}
 use Rattle.queues.specs.Held.{held}
 use Rattle.ghosts.specs.Remembered.{remembered}
 use Rattle.policy.specs.View.{noting}

@@ -1,4 +1,4 @@
-use Rattle.std.proofs.Common.{◌≡◌, refl, arith}
+use Rattle.std.proofs.Common.{refl, arith}
 use Rattle.std.proofs.lemmas.List.{get_or_past}
 use Rattle.queues.proofs.Hit.{hit_parts, unhit_parts}
 use Rattle.queues.proofs.residents.Residents.hit.Goals as goal

@@ -3,7 +3,6 @@ use lib.ListN.{get_or-replicate}
 use Rattle.std.proofs.lemmas.List.{get_or_past, length-replicate}
 use Rattle.std.proofs.lemmas.Bool.{cases_lt, le-ltb}
 use Rattle.links.specs.Rows.{nth}
-use Rattle.queues.specs.declared.state.SlotState.{SlotState}
 use Rattle.queues.specs.declared.state.SlotState.TheVariants.{Plain}
 use Rattle.queues.specs.State.{is_young}
 use Rattle.queues.proofs.Sound.{all_long}
@@ -20,19 +19,13 @@ pub invariant_of-result : goal.invariant_of-result
 invariant_of-result c =
     let l = c.new.ensures.lists in
     let h = c.new.ensures.homes in
-    let y = ap (λ (xss : List (List ℕ)). nth 0 xss) l in (
-      (refl, refl),
-      (
-        (λ p. rw (h p) (sym (le-ltb p 0 (omega arith)))),
-        (
-          ap all_long l,
-          (
-            (λ p. ap is_young (calm p) ∙ sym (ap (λ (x : ℕ). eqb x 0) (h p))),
-            (
-              (λ p e. let z = h p in absurd (omega arith)),
-              (rw y, ((let m = c.max.ensures in omega arith, let f = c.ranges.window in omega arith), tt)),
-            ),
-          ),
-        ),
-      ),
-    )
+    let y = ap (λ (xss : List (List ℕ)). nth 0 xss) l in
+    record {
+      sized = (refl, refl);
+      listed = λ p. rw (h p) (sym (le-ltb p 0 (omega arith)));
+      counted = ap all_long l;
+      sorted = λ p. ap is_young (calm p) ∙ sym (ap (λ (x : ℕ). eqb x 0) (h p));
+      recent = λ p e. let z = h p in absurd (omega arith);
+      rising = rw y;
+      «open» = (let m = c.max.ensures in omega arith, let f = c.ranges.window in omega arith);
+    }

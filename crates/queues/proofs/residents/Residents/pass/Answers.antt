@@ -1,9 +1,9 @@
-use Rattle.std.proofs.Common.{◌≡◌, sym, refl, ap, ◌∙◌, arith}
+use Rattle.std.proofs.Common.{refl, ap, arith}
 use Rattle.queues.specs.declared.state.Event.TheVariants.{Chance}
 use Rattle.queues.specs.State.{met, is_young}
 use Rattle.queues.specs.Slots.{list_of, state_of}
 use Rattle.queues.proofs.Sound.{ghosts, sound_of, home_low, home_opened}
-use Rattle.queues.proofs.Moved.{Restated, restated, backed_sound, with_line}
+use Rattle.queues.proofs.Moved.{restated, backed_sound, with_line}
 use Rattle.links.proofs.Ends.{split_first}
 use Rattle.queues.proofs.ToMain.{chance_plain, calm_at, pass_parts}
 use Rattle.queues.proofs.Turns.{hand_home}

@@ -1,10 +1,9 @@
-use Rattle.std.proofs.Common.{◌≡◌, sym, refl, ap, ◌∙◌, arith}
-use Rattle.queues.specs.declared.state.SlotState.TheVariants.{Plain}
+use Rattle.std.proofs.Common.{refl, ap, arith}
 use Rattle.queues.specs.declared.state.Event.TheVariants.{Promotion}
 use Rattle.queues.specs.State.{met, is_young}
 use Rattle.queues.specs.Slots.{state_of}
 use Rattle.queues.proofs.Sound.{ghosts, sound_of, home_low, home_opened}
-use Rattle.queues.proofs.Moved.{Restated, restated, backed_sound, with_line}
+use Rattle.queues.proofs.Moved.{restated, backed_sound, with_line}
 use Rattle.queues.proofs.ToMain.{promotion_plain, promote_parts}
 use Rattle.queues.proofs.Tail.{tail_home, tail_split}
 use Rattle.queues.proofs.residents.Residents.promote_tail.Goals as goal

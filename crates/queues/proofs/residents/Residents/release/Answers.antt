@@ -1,6 +1,6 @@
-use Rattle.std.proofs.Common.{◌≡◌, sym, refl, ◌∙◌, arith}
+use Rattle.std.proofs.Common.{sym, refl, ◌∙◌, arith}
 use Rattle.queues.specs.declared.state.SlotState.TheVariants.{Plain}
-use Rattle.queues.specs.Held.{locate, parts_of}
+use Rattle.queues.specs.Held.{parts_of}
 use Rattle.queues.proofs.Sound.{ghosts, sound_of, home_low, home_opened}
 use Rattle.queues.proofs.Moved.{placed, placed_restated, fronted_sound}
 use Rattle.queues.proofs.Located.{held_is, free_is, not_free}

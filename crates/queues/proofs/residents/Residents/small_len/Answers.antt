@@ -1,4 +1,4 @@
-use Rattle.std.proofs.Common.{◌≡◌, ◌++◌, sym, ◌∙◌, arith}
+use Rattle.std.proofs.Common.{◌++◌, arith}
 use Rattle.std.proofs.lemmas.List.{length-map, length-append}
 use Rattle.queues.specs.Held.{resident}
 use Rattle.queues.specs.Slots.{list_of}

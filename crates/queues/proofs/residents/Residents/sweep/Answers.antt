@@ -1,4 +1,4 @@
-use Rattle.std.proofs.Common.{◌≡◌, ℕ, ◌≤◌, List, length, sym, refl, ap, ◌∙◌, arith, rules}
+use Rattle.std.proofs.Common.{ℕ, List, length, sym, refl, ap, ◌∙◌, arith, rules}
 use Rattle.std.proofs.lemmas.List.{length-map, nil_from_length}
 use Rattle.machine.specs.Replacement.{Resident, sweep}
 use Rattle.queues.specs.Slots.{list_of}
@@ -17,8 +17,8 @@ returns-then-main_len-eq0 c =
       window = refl;
     }
 
-pub overflow-add-chances : goal.overflow-add-chances
-overflow-add-chances c =
+pub overflow_add-chances : goal.overflow_add-chances
+overflow_add-chances c =
     let h = at_hand (held c.loop-self.self).main _ _ c.in-Some-default-true.ensures in
     let t = turn_parts (held c.args.self.now) (held c.loop-self.self) c.loop-self.chances c.loop-self.invariant.1 _ _ h (search rules) (held c.pass.new.self) c.pass.ensures.held in
     let s = c.args.self.now.slots in

@@ -1,4 +1,4 @@
-use Rattle.std.proofs.Common.{◌≡◌, sym, refl, ◌∙◌, arith}
+use Rattle.std.proofs.Common.{sym, refl}
 use Rattle.std.proofs.lemmas.Bool.{lt-ltb}
 use Rattle.queues.proofs.Sound.{ghosts, sound_of}
 use Rattle.queues.proofs.Unlocked.{widened, unlocked_parts, unlocked_sound}

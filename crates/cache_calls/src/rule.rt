@@ -1,0 +1,19 @@
+//! A keep rule that asking may change.
+
+ghost use Rattle.std.specs.Prelude.{◌≡◌, ℕ, Bool, List};
+
+use keys::kind::Key;
+
+/// A rule that says which residents a retain keeps, by the key's meaning and the value alone. Asking may change the
+/// rule, as one that counts does, but not what it keeps; `after` is the rule once it was asked.
+pub trait AskedKeepRule<K: Key, V> {
+    ghost keeps: { Self → List ℕ → V → Bool };
+
+    ghost after: { Self → List ℕ → V → Self };
+
+    /// Whether the resident stays.
+    fn keep(&mut self, key: &K, value: &V) -> bool
+        ensures answers { result ≡ keeps self.old (K.Key.meaning key.now) value.now }
+        ensures asked { self.new ≡ after self.old (K.Key.meaning key.now) value.now }
+        ensures meaning { keeps self.new ≡ keeps self.old };
+}
