@@ -12,6 +12,7 @@ cat "$rust" "$here/appended.rs" > "$work/handles.rs"
 # The file is compared unchanged: it is the first part of what is built.
 head -c "$(wc -c < "$rust")" "$work/handles.rs" | cmp - "$rust"
 cp "$here/driver.rs" "$work/driver.rs"
-[ -f "$root/target/staticlib/libhandles_c.a" ] || (cd "$root" && rt staticlib handles_c)
-rustc -O --edition 2024 --cfg 'feature="std"' -L "$root/target/staticlib" -C link-arg="$(dirname "$(dirname "$(readlink -f "$(command -v rt)")")")/lib/librattle_c.a" -o "$work/driver" "$work/driver.rs"
+ours=$root/crates/handles_c
+[ -f "$ours/out/libhandles_c.a" ] || (cd "$ours" && rt lib >&2)
+rustc -O --edition 2024 --cfg 'feature="std"' -L "$ours/out" -C link-arg="$(dirname "$(rt doc)")/c/liblibc_c.a" -o "$work/driver" "$work/driver.rs"
 "$work/driver" "$what"
