@@ -1,6 +1,6 @@
 -- A retain once all places are sifted: the machine's, with the indexes right, and the rule asked once for each resident.
 use Rattle.std.proofs.Common.{◌≡◌, ℕ, zero, suc, ◌<◌, ◌≤◌, Bool, true, false, cond, not, ◌&&◌, eqb, List, [], ◌∷◌, ◌++◌, map, length, filter, Option, sym, refl, ap, ◌∙◌, subst, inl, inr, le_of_suc-le-suc, arith}
-use Rattle.std.specs.List.{AllByRecursion as All}
+use Rattle.std.specs.List.{AllByRecursion}
 use Rattle.std.proofs.lemmas.Bool.{cases_eq, eq-eqb, ne_eqb, lt-ltb}
 use Rattle.std.proofs.lemmas.List.{map-append}
 use Rattle.handle_laws.specs.Runs.{how_many}
@@ -55,7 +55,7 @@ kept_one n (p ∷ ps) e =
           ap (λ (b : Bool). cond b (p ∷ filter (λ q. eqb q n) ps) (filter (λ q. eqb q n) ps)) (ne_eqb p n ne) ∙ kept_one n ps (omega arith))
     ]
 
-all_same : {A : Type 0} (f : A → Bool) (xs : List A) → All (λ x. f x ≡ f x) xs
+all_same : {A : Type 0} (f : A → Bool) (xs : List A) → AllByRecursion (λ x. f x ≡ f x) xs
 all_same f [] = tt
 all_same f (x ∷ xs) = (refl, all_same f xs)
 
