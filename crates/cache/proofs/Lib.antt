@@ -1,1 +1,2 @@
 pub mod Performing
+pub mod Playing

@@ -1,5 +1,5 @@
 -- Calls made one after the other: what holds before the i-th.
-use Rattle.std.proofs.Common.{◌≡◌, ℕ, zero, suc, ◌+◌, ◌<◌, ◌≤◌, min, Bool, List, [], ◌∷◌, ◌++◌, length, get_or, take, drop, set, Result, sym, refl, ap, ◌∙◌, subst, append_assoc, le_of_suc-le-suc, arith, length-set}
+use Rattle.std.proofs.Common.{◌≡◌, ℕ, zero, suc, ◌<◌, ◌≤◌, min, Bool, List, [], ◌∷◌, ◌++◌, length, get_or, take, drop, set, Result, sym, refl, ap, ◌∙◌, append_assoc, le_of_suc-le-suc, arith, length-set}
 use Rattle.loaders.specs.declared.fault.Fault.{Fault}
 use Rattle.machine.specs.declared.call.Call.{Call}
 use Rattle.machine.specs.declared.call.Answer.{Answer}
@@ -11,7 +11,7 @@ use Rattle.cache_core.specs.Tied.{Within}
 use Rattle.cache_calls.specs.Calls.{Does}
 use Rattle.cache_calls.specs.Retain.{rising}
 use Rattle.cache.specs.Records.{laid_by}
-use Rattle.cache.specs.Run.{stepped, state_from, answers_from, laid_from, Performs, Performed}
+use Rattle.cache.specs.Run.{stepped, state_from, answers_from, laid_from, Performed}
 
 -- ## Lists
 

@@ -11,11 +11,11 @@ ghost use Rattle.cache_calls.specs.Calls.{Tells, Does, put_lays, fetch_lays, cla
 ghost use Rattle.cache_calls.specs.Retain.{retained, asked_each};
 
 use crate::cache::Cache;
+use cache_calls::AskedKeepRule;
 use cache_core::clear as clear_in;
 use keys::kind::HashedKey;
 use loaders::loader::Loader;
 use machine::call::{Claimed, Fetched, Placed};
-use cache_calls::AskedKeepRule;
 use machine::refusal::Refusal;
 use records::Record;
 

@@ -1,4 +1,5 @@
 //! The cache: opening, every call, and whole lists of calls with the laws over runs.
+#![tactic(auto)]
 
 mod answers;
 mod cache;

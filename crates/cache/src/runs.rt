@@ -8,11 +8,11 @@ ghost use Rattle.cache.specs.Run.{Performed, Plays};
 use crate::cache::Cache;
 use crate::calls::measure;
 use crate::step::perform_in;
+use cache_calls::AskedKeepRule;
 use cache_core::Inner;
 use keys::kind::HashedKey;
 use loaders::loader::Loader;
 use machine::call::{Answer, Call};
-use cache_calls::AskedKeepRule;
 use machine::refusal::Refusal;
 use records::Record;
 

@@ -10,11 +10,11 @@ ghost use Rattle.cache_calls.specs.Retain.{rising};
 ghost use Rattle.cache.specs.Records.{laid_by};
 
 use crate::answers::{says_done, says_fetched, says_found, says_if, says_placed};
+use cache_calls::AskedKeepRule;
 use cache_core::{Inner, clear};
 use keys::kind::HashedKey;
 use loaders::loader::Loader;
 use machine::call::{Answer, Call};
-use cache_calls::AskedKeepRule;
 
 /// Makes a call; the rule of a retain is asked as a copy.
 pub(crate) fn perform_in<K: HashedKey, V: Copy, L: Loader<K, V>, R: AskedKeepRule<K, V> + Copy>(

@@ -1,8 +1,8 @@
 -- What is read off the records, and the capacity that they are opened with.
-use Rattle.std.proofs.Common.{◌≡◌, ℕ, zero, suc, ◌<◌, ◌≤◌, Bool, true, false, cond, eqb, leb, ◌⊎◌, List, [], ◌∷◌, length, get_or, Ok, Err, sym, refl, ap, ◌∙◌, inl, inr, le_of_suc-le-suc, arith}
+use Rattle.std.proofs.Common.{◌≡◌, ℕ, zero, suc, ◌<◌, ◌≤◌, Bool, true, false, cond, eqb, leb, List, [], ◌∷◌, length, get_or, Ok, Err, sym, refl, ap, ◌∙◌, inl, inr, le_of_suc-le-suc, arith}
 use Rattle.std.proofs.lemmas.Bool.Decides.{eqb_tells}
 use Rattle.machine.specs.declared.refusal.Refusal.TheVariants.{NoRecords, TooManyRecords}
-use Rattle.machine.specs.Measure.{measured, or_none, opened_with}
+use Rattle.machine.specs.Measure.{or_none, opened_with}
 use Rattle.policy.specs.View.{allowed}
 use Rattle.records.specs.declared.record.Record.{Record}
 use Rattle.cache_core.specs.View.{value_at, bare, rekeyed}

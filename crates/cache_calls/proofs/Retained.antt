@@ -1,19 +1,18 @@
 -- A retain once all places are sifted: the machine's, with the indexes right, and the rule asked once for each resident.
-use Rattle.std.proofs.Common.{◌≡◌, ℕ, zero, suc, ◌+◌, ◌<◌, ◌≤◌, Bool, true, false, cond, not, ◌&&◌, eqb, ltb, ◌⊎◌, List, [], ◌∷◌, ◌++◌, map, length, filter, Option, sym, refl, ap, ◌∙◌, subst, inl, inr, le_of_suc-le-suc, arith}
-use Rattle.std.specs.List.{AllByRecursion as All}
+use Rattle.std.proofs.Common.{◌≡◌, ℕ, zero, suc, ◌<◌, ◌≤◌, Bool, true, false, cond, not, ◌&&◌, eqb, List, [], ◌∷◌, ◌++◌, map, length, filter, Option, sym, refl, ap, ◌∙◌, subst, inl, inr, le_of_suc-le-suc, arith}
+use Rattle.std.specs.List.{AllByRecursion}
 use Rattle.std.proofs.lemmas.Bool.{cases_eq, eq-eqb, ne_eqb, lt-ltb}
 use Rattle.std.proofs.lemmas.List.{map-append}
 use Rattle.handle_laws.specs.Runs.{how_many}
 use Rattle.machine.specs.Replacement.{Resident, Parts, drops, highest_first}
-use Rattle.machine.specs.Machine.{Item, Cell, cell_of}
+use Rattle.machine.specs.Machine.{Item, cell_of}
 use Rattle.machine_laws.proofs.Carried.{map_kept, drops_carried, highest_carried}
 use Rattle.queues.specs.Held.{resides}
 use Rattle.policy.specs.View.{view, flagged}
-use Rattle.index.specs.declared.index.KeyIndex.{KeyIndex}
 use Rattle.index.specs.Filed.{bears}
 use Rattle.index.specs.Ties.{occurs, Ties}
 use Rattle.index.proofs.Firsts.{not_both}
-use Rattle.index.proofs.Joined.{Alike, counts_none, ties_alike}
+use Rattle.index.proofs.Joined.{counts_none, ties_alike}
 use Rattle.records.specs.declared.column.Column.TheVariants.{Resident as of_resident, Remembered as of_ghost}
 use Rattle.records.specs.declared.record.Record.{Record}
 use Rattle.records.specs.Columns.{word_at}
@@ -23,7 +22,7 @@ use Rattle.cache_core.specs.Tied.{TiedWithin, Within}
 use Rattle.cache_core.proofs.Standing.{orderly, place_within}
 use Rattle.cache_core.proofs.Leaving.{items, items_append}
 use Rattle.cache_core.proofs.Residing.{all_items, kept_both, resides_there}
-use Rattle.cache_calls.specs.Retain.{rising, residents_below, asked_all, asked_each, refused, asked_of, dropped, asked_at}
+use Rattle.cache_calls.specs.Retain.{rising, residents_below, asked_all, asked_each, refused, asked_of, dropped}
 use Rattle.cache_calls.proofs.Finds.{resides_count}
 use Rattle.cache_calls.proofs.Sifted.{occurs_kept, goes, asked_to, Midway}
 
@@ -56,7 +55,7 @@ kept_one n (p ∷ ps) e =
           ap (λ (b : Bool). cond b (p ∷ filter (λ q. eqb q n) ps) (filter (λ q. eqb q n) ps)) (ne_eqb p n ne) ∙ kept_one n ps (omega arith))
     ]
 
-all_same : {A : Type 0} (f : A → Bool) (xs : List A) → All (λ x. f x ≡ f x) xs
+all_same : {A : Type 0} (f : A → Bool) (xs : List A) → AllByRecursion (λ x. f x ≡ f x) xs
 all_same f [] = tt
 all_same f (x ∷ xs) = (refl, all_same f xs)
 

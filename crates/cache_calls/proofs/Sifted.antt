@@ -1,16 +1,12 @@
 -- A retain place by place: what is flagged, unfiled and asked once the places below n are sifted.
-use Rattle.std.proofs.Common.{◌≡◌, ℕ, zero, suc, ◌+◌, ◌<◌, ◌≤◌, Bool, true, false, cond, not, ◌&&◌, eqb, ltb, ◌⊎◌, List, [], ◌∷◌, ◌++◌, map, length, get_or, set, replicate, Some, None, filter, Option, sym, refl, ap, ◌∙◌, subst, inl, inr, le_of_suc-le-suc, arith, length-set, get_or-set_other, get_or-set_same}
-use Rattle.std.specs.Option.{option_map}
-use Rattle.std.specs.List.{AllByRecursion as All}
+use Rattle.std.proofs.Common.{◌≡◌, ℕ, zero, suc, ◌+◌, ◌<◌, ◌≤◌, Bool, true, false, cond, not, ◌&&◌, eqb, ltb, List, [], ◌∷◌, length, get_or, set, replicate, filter, Option, sym, refl, ap, ◌∙◌, subst, inl, inr, le_of_suc-le-suc, arith, length-set, get_or-set_other, get_or-set_same}
 use Rattle.std.proofs.lemmas.Bool.{cases_eq, eq-eqb, ne_eqb, lt-ltb, le-ltb, ltb-true, ltb-false}
-use Rattle.handle_laws.specs.Runs.{how_many}
 use Rattle.queues.specs.Held.{resides}
 use Rattle.policy.specs.declared.policy.Policy.{Policy}
 use Rattle.policy.specs.View.{view, flagged}
 use Rattle.machine.specs.Replacement.{Parts}
 use Rattle.index.specs.declared.index.KeyIndex.{KeyIndex}
 use Rattle.index.specs.Ties.{occurs, Ties}
-use Rattle.index.proofs.Firsts.{not_both}
 use Rattle.index.proofs.Joined.{Alike, counts_none, ties_alike}
 use Rattle.records.specs.declared.column.Column.TheVariants.{Resident as of_resident}
 use Rattle.records.specs.declared.record.Record.{Record}
@@ -18,7 +14,7 @@ use Rattle.records.specs.Columns.{word_at}
 use Rattle.cache_core.specs.declared.inner.Inner.{Inner}
 use Rattle.cache_core.specs.View.{places}
 use Rattle.cache_core.specs.Tied.{Within}
-use Rattle.cache_core.specs.Filing.{Unseats, OnlyResidents}
+use Rattle.cache_core.specs.Filing.{OnlyResidents}
 use Rattle.cache_core.proofs.Standing.{orderly, place_within}
 use Rattle.cache_calls.specs.Retain.{refused, asked_of, dropped, asked_at, Sifts}
 use Rattle.cache_calls.proofs.Finds.{bears_first, resides_count}

@@ -1,5 +1,5 @@
 -- What the inner steps of the calls do.
-use Rattle.std.specs.Prelude.{◌≡◌, ℕ, ◌≤◌, List}
+use Rattle.std.specs.Prelude.{◌≡◌, ℕ, List}
 use Rattle.machine.specs.declared.report.Report.{Report}
 use Rattle.machine.specs.Replacement.{uses}
 use Rattle.machine.specs.Machine.{is_at, lying, arrival, settled, report_of}

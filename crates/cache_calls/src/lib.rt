@@ -1,4 +1,5 @@
 //! Every call of a cache over its inner parts, each the plain machine's step.
+#![tactic(auto)]
 
 mod claiming;
 mod finding;

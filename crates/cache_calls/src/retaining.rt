@@ -7,9 +7,9 @@ ghost use Rattle.cache_calls.specs.Calls.{Does};
 ghost use Rattle.cache_calls.specs.Retain.{retained, asked_each, refused, asked_of, dropped, asked_at, Sifts};
 
 use crate::finding::is_resident;
+use crate::rule::AskedKeepRule;
 use cache_core::{Inner, unseat};
 use keys::kind::HashedKey;
-use crate::rule::AskedKeepRule;
 use records::Record;
 
 /// Whether a rule refuses the record of a place.
@@ -63,7 +63,10 @@ fn sift<K: HashedKey, V: Copy, R: AskedKeepRule<K, V>>(
 }
 
 /// Drops the residents that a rule refuses; it is asked once for each resident, by rising place.
-pub fn retain<K: HashedKey, V: Copy, R: AskedKeepRule<K, V>>(inner: &mut Inner<'_, K, V>, rule: &mut R)
+pub fn retain<K: HashedKey, V: Copy, R: AskedKeepRule<K, V>>(
+    inner: &mut Inner<'_, K, V>,
+    rule: &mut R,
+)
     ensures does { Does K.Key.meaning K.HashedKey.hashed (retained (R.AskedKeepRule.keeps rule.old)) inner.old result inner.new }
     ensures asked { Within K.Key.meaning K.HashedKey.hashed inner.old → (d : V) → rule.new ≡ asked_each R.AskedKeepRule.after rule.old (state K.Key.meaning d inner.old) }
     ensures meaning { R.AskedKeepRule.keeps rule.new ≡ R.AskedKeepRule.keeps rule.old }

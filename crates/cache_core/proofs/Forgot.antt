@@ -1,6 +1,6 @@
 -- A node of Ghost forgotten is a key forgotten, and the indexes stay tied.
 use Rattle.std.proofs.Common.{◌≡◌, ℕ, ◌<◌, true, false, cond, not, ◌||◌, eqb, List, [], ◌∷◌, map, length, Some, filter, Option, sym, refl, ap, inl, inr, arith}
-use Rattle.std.specs.List.{AllByRecursion as All}
+use Rattle.std.specs.List.{AllByRecursion}
 use Rattle.std.proofs.lemmas.Bool.Decides.{eqb_tells}
 use Rattle.links.specs.Rows as rows
 use Rattle.machine.specs.Replacement.{Parts, forgets}
@@ -23,7 +23,7 @@ use Rattle.cache_core.proofs.Only.{passes, its_word, only}
 use Rattle.cache_core.proofs.Standing.{Orderly, same_occurs}
 use Rattle.cache_core.proofs.Ghosts.{others}
 
-all_from : (P : ℕ → Type 0) (xs : List ℕ) → ((q : ℕ) → 0 < occurs q xs → P q) → All P xs
+all_from : (P : ℕ → Type 0) (xs : List ℕ) → ((q : ℕ) → 0 < occurs q xs → P q) → AllByRecursion P xs
 all_from P [] h = tt
 all_from P (x ∷ xs) h = (h x (here x xs), all_from P xs (λ q some. h q (omega arith)))
 

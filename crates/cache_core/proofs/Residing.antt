@@ -1,6 +1,6 @@
 -- A resident named by its place is the one with its key: a use of it, and its leaving.
 use Rattle.std.proofs.Common.{◌≡◌, ℕ, zero, suc, ◌+◌, ◌<◌, Bool, true, false, cond, not, ◌||◌, eqb, List, [], ◌∷◌, ◌++◌, map, length, Some, filter, Option, sym, refl, ap, ◌∙◌, subst, inl, inr, arith, eq-eqb}
-use Rattle.std.specs.List.{AllByRecursion as All}
+use Rattle.std.specs.List.{AllByRecursion}
 use Rattle.std.proofs.lemmas.Bool.Decides.{eqb_tells}
 use Rattle.std.proofs.lemmas.List.{map-append}
 use Rattle.machine.specs.Replacement.{Resident, Parts, hit, uses, drops}
@@ -24,7 +24,7 @@ use Rattle.cache_core.proofs.Standing.{Orderly}
 use Rattle.cache_core.proofs.Leaving.{items, items_append}
 use Rattle.cache_core.proofs.Ghosts.{others}
 
-pub all_items : (P : ℕ → Type 0) (xs : List (Resident ℕ)) → ((q : ℕ) → 0 < occurs q (items xs) → P q) → All (λ r. P r.item) xs
+pub all_items : (P : ℕ → Type 0) (xs : List (Resident ℕ)) → ((q : ℕ) → 0 < occurs q (items xs) → P q) → AllByRecursion (λ r. P r.item) xs
 all_items P [] h = tt
 all_items P (x ∷ xs) h = (h x.item (here x.item (items xs)), all_items P xs (λ q some. h q (omega arith)))
 
@@ -47,7 +47,7 @@ kept_both {A} t (x ∷ xs) ys =
       | false ↦ ih
     ]
 
-all_refl : (t : ℕ → Bool) (xs : List (Resident ℕ)) → All (λ r. t r.item ≡ t r.item) xs
+all_refl : (t : ℕ → Bool) (xs : List (Resident ℕ)) → AllByRecursion (λ r. t r.item ≡ t r.item) xs
 all_refl t [] = tt
 all_refl t (x ∷ xs) = (refl, all_refl t xs)
 
@@ -102,10 +102,10 @@ module _ {K V : Type 0} (mean : K → List ℕ) (rs : List (Record K V)) (w : Li
   pub only_place : (q : ℕ) → 0 < occurs q (places s) → same w (word_in mean of_resident rs q) ≡ eqb q place
   only_place = only mean of_resident rs w (places s) place found within (t.residents.apart w)
 
-  small_only : All (λ r. same w (word_in mean of_resident rs r.item) ≡ eqb r.item place) s.small
+  small_only : AllByRecursion (λ r. same w (word_in mean of_resident rs r.item) ≡ eqb r.item place) s.small
   small_only = all_items (λ q. same w (word_in mean of_resident rs q) ≡ eqb q place) s.small (λ q some. only_place q (let a = items_append q s.small s.main in omega arith))
 
-  main_only : All (λ r. same w (word_in mean of_resident rs r.item) ≡ eqb r.item place) s.main
+  main_only : AllByRecursion (λ r. same w (word_in mean of_resident rs r.item) ≡ eqb r.item place) s.main
   main_only = all_items (λ q. same w (word_in mean of_resident rs q) ≡ eqb q place) s.main (λ q some. only_place q (let a = items_append q s.small s.main in omega arith))
 
   pub uses_place : (d : V) → seen mean d rs (uses (λ q. eqb q place) s) ≡ uses (is_at w) (seen mean d rs s)

@@ -1,4 +1,5 @@
 //! Tests of the key kinds: how their hashes spread, and that spelling does not count.
+#![tactic(auto)]
 
 #[cfg(test)]
 mod tests {

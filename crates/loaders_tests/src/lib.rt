@@ -1,4 +1,5 @@
 //! Tests of the loaders, alone and stacked.
+#![tactic(auto)]
 
 #[cfg(test)]
 mod tests {

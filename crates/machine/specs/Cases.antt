@@ -1,6 +1,6 @@
 -- Worked cases: a table of limits, one of runs with their answers and the keys that they leave, and one of claims.
 use Rattle.std.specs.Prelude.{◌≡◌, ℕ, cond, List, [], ◌∷◌, ◌++◌, map, reverse, ℤ, pos, negsuc, Some, None, Ok, Err, Option, Result}
-use Rattle.std.specs.List.{AllByRecursion as All}
+use Rattle.std.specs.List.{AllByRecursion}
 use Rattle.loaders.specs.declared.fault.Cause.TheVariants.{NoRecord}
 use Rattle.loaders.specs.declared.fault.Fault.{Fault}
 use Rattle.machine.specs.declared.limits.Limits.{Limits}
@@ -223,4 +223,4 @@ Claims case = (claim case.capacity (state_after case.capacity sheet order (rever
 -- ## All of them
 
 abbrev pub WorkedCases : Type 0
-WorkedCases = All (λ (row : ℕ × Limits). limits_of row.0 ≡ row.1) limit_table × All Runs run_table × All Claims claim_table
+WorkedCases = AllByRecursion (λ (row : ℕ × Limits). limits_of row.0 ≡ row.1) limit_table × AllByRecursion Runs run_table × AllByRecursion Claims claim_table

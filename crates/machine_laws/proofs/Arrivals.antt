@@ -1,6 +1,6 @@
 -- An event that brings a key in: what it leaves of Small and Main is as the invariant says.
 use Rattle.std.proofs.Common.{◌≡◌, ℕ, suc, ◌+◌, ◌<◌, ◌≤◌, Bool, true, false, cond, ◌⊎◌, List, [], ◌∷◌, ◌++◌, map, length, take, Some, None, Option, Result, unwrap_or, sym, refl, ap, ◌∙◌, subst, inl, inr, ⊎_elim, arith, length-append}
-use Rattle.std.specs.List.{AllByRecursion as All}
+use Rattle.std.specs.List.{AllByRecursion}
 use Rattle.std.proofs.ByRecursion.{All-append, All-map, All-weaker}
 use Rattle.std.proofs.lemmas.Bool.{or_right, or_parts}
 use Rattle.loaders.specs.declared.fault.Fault.{Fault}
@@ -30,7 +30,7 @@ used_plain : {V : Type 0} (xs : List (Resident (Item V))) → used_in (map (mark
 used_plain [] = refl
 used_plain (x ∷ xs) = let ih = used_plain xs in omega arith
 
-used_all : {V : Type 0} (xs : List (Resident (Item V))) → All IsUsed xs → used_in xs ≡ length xs
+used_all : {V : Type 0} (xs : List (Resident (Item V))) → AllByRecursion IsUsed xs → used_in xs ≡ length xs
 used_all [] u = refl
 used_all (x ∷ xs) u = let ih = used_all xs u.1 in let q : ◌≡◌ {A = ℕ} (cond (is_used x.mark) 1 0) 1 = rw u.0 refl in omega arith
 
@@ -64,7 +64,7 @@ module _ {V : Type 0} (c : ℕ) (loader : Word → Result V Fault) (h : List (Ev
     abbrev pub StoodSmall : Resident (Item V) → Type 0
     StoodSmall r = (InSmall c loader h r × (has (word_of r) (words s.small) ≡ true)) × (same k (word_of r) ≡ false)
 
-    pub stood_smalls : Sound c loader h s → All StoodSmall s.small
+    pub stood_smalls : Sound c loader h s → AllByRecursion StoodSmall s.small
     stood_smalls good =
         all_both (λ r. InSmall c loader h r × (has (word_of r) (words s.small) ≡ true)) (λ r. same k (word_of r) ≡ false) s.small
         (all_both (InSmall c loader h) (λ r. has (word_of r) (words s.small) ≡ true) s.small good.smalls (all_in s.small)) (all_other k s.small absent_small)
@@ -75,7 +75,7 @@ module _ {V : Type 0} (c : ℕ) (loader : Word → Result V Fault) (h : List (Ev
       keeps_value r (small_resident (word_of r) here p.0.1) p.1 p.0.0.1,
     )
 
-    pub smalls_age : newcomer here ≡ true → (xs : List (Resident (Item V))) → All StoodSmall xs → All (InSmall c loader (here ∷ h)) (map (λ r. marked (aged (window c) r.mark) r) xs)
+    pub smalls_age : newcomer here ≡ true → (xs : List (Resident (Item V))) → AllByRecursion StoodSmall xs → AllByRecursion (InSmall c loader (here ∷ h)) (map (λ r. marked (aged (window c) r.mark) r) xs)
     smalls_age f xs p =
         All-map (InSmall c loader (here ∷ h)) (λ r. marked (aged (window c) r.mark) r) xs
         (All-weaker StoodSmall (λ r. InSmall c loader (here ∷ h) (marked (aged (window c) r.mark) r)) (small_ages f) xs p)
@@ -87,7 +87,7 @@ module _ {V : Type 0} (c : ℕ) (loader : Word → Result V Fault) (h : List (Ev
       keeps_value r (small_resident (word_of r) here p.0.1) p.1 p.0.0.1,
     )
 
-    pub smalls_stay : newcomer here ≡ false → (xs : List (Resident (Item V))) → All StoodSmall xs → All (InSmall c loader (here ∷ h)) xs
+    pub smalls_stay : newcomer here ≡ false → (xs : List (Resident (Item V))) → AllByRecursion StoodSmall xs → AllByRecursion (InSmall c loader (here ∷ h)) xs
     smalls_stay f xs p = All-weaker StoodSmall (InSmall c loader (here ∷ h)) (small_stays f) xs p
 
     -- ## Main
@@ -95,7 +95,7 @@ module _ {V : Type 0} (c : ℕ) (loader : Word → Result V Fault) (h : List (Ev
     abbrev pub StoodMain : Resident (Item V) → Type 0
     StoodMain r = (InMain c loader h r × (has (word_of r) (words s.main) ≡ true)) × (same k (word_of r) ≡ false)
 
-    pub stood_mains : Sound c loader h s → All StoodMain s.main
+    pub stood_mains : Sound c loader h s → AllByRecursion StoodMain s.main
     stood_mains good =
         all_both (λ r. InMain c loader h r × (has (word_of r) (words s.main) ≡ true)) (λ r. same k (word_of r) ≡ false) s.main
         (all_both (InMain c loader h) (λ r. has (word_of r) (words s.main) ≡ true) s.main good.mains (all_in s.main)) (all_other k s.main absent_main)
@@ -117,7 +117,7 @@ module _ {V : Type 0} (c : ℕ) (loader : Word → Result V Fault) (h : List (Ev
     passes_front : (front : List Word) → take n (words s.main) ≡ front → (j : Word) → passes j here ≡ has j front
     passes_front front e j = ap (λ (m : ℕ). has j (take m (words s.main))) b.told ∙ ap (has j) e
 
-    pub mains_stay : n ≡ 0 → (xs : List (Resident (Item V))) → All StoodMain xs → All (InMain c loader (here ∷ h)) xs
+    pub mains_stay : n ≡ 0 → (xs : List (Resident (Item V))) → AllByRecursion StoodMain xs → AllByRecursion (InMain c loader (here ∷ h)) xs
     mains_stay z xs p =
         All-weaker StoodMain (InMain c loader (here ∷ h)) (λ r q. main_stays r q (passes_front [] (ap (λ (m : ℕ). take m (words s.main)) z) (word_of r))) xs p
 
@@ -137,12 +137,12 @@ module _ {V : Type 0} (c : ℕ) (loader : Word → Result V Fault) (h : List (Ev
           let l = good.alone (word_of r) in
           occurs_none (word_of r) (words st.passed) (omega arith)
 
-      swept_stopped : Stopped s.main w → All (InMain c loader (here ∷ h)) w.rest
+      swept_stopped : Stopped s.main w → AllByRecursion (InMain c loader (here ∷ h)) w.rest
       swept_stopped st =
-          let all = subst (λ (l : List (Resident (Item V))). All StoodMain l) st.stood (stood_mains good) in
+          let all = subst (λ (l : List (Resident (Item V))). AllByRecursion StoodMain l) st.stood (stood_mains good) in
           let back = (all_right StoodMain st.passed (w.victim ∷ st.after) all).1 in
           let front = all_left StoodMain st.passed (w.victim ∷ st.after) all in
-          subst (λ (l : List (Resident (Item V))). All (InMain c loader (here ∷ h)) l) (sym st.moved)
+          subst (λ (l : List (Resident (Item V))). AllByRecursion (InMain c loader (here ∷ h)) l) (sym st.moved)
           (All-append (InMain c loader (here ∷ h)) st.after (map (marked plain) st.passed)
           (All-weaker (λ r. StoodMain r × (has (word_of r) (words st.after) ≡ true)) (InMain c loader (here ∷ h))
           (λ r q. main_stays r q.0 (passes_front (words st.passed) (stopped_front st) (word_of r) ∙ behind st r q.1)) st.after
@@ -152,16 +152,16 @@ module _ {V : Type 0} (c : ℕ) (loader : Word → Result V Fault) (h : List (Ev
           (λ r q. main_passed r q.0 (passes_front (words st.passed) (stopped_front st) (word_of r) ∙ q.1)) st.passed
           (all_both StoodMain (λ r. has (word_of r) (words st.passed) ≡ true) st.passed front (all_in st.passed)))))
 
-      swept_round : Round s.main w → All (InMain c loader (here ∷ h)) w.rest
+      swept_round : Round s.main w → AllByRecursion (InMain c loader (here ∷ h)) w.rest
       swept_round rd =
-          let all = subst (λ (l : List (Resident (Item V))). All StoodMain l) rd.stood (stood_mains good) in
+          let all = subst (λ (l : List (Resident (Item V))). AllByRecursion StoodMain l) rd.stood (stood_mains good) in
           let l : n ≡ length (words s.main) = told ∙ (rd.told ∙ sym (words_length s.main)) in
           let f : take n (words s.main) ≡ words s.main = ap (λ (m : ℕ). take m (words s.main)) l ∙ take_all (words s.main) in
-          subst (λ (l : List (Resident (Item V))). All (InMain c loader (here ∷ h)) l) (sym rd.moved)
+          subst (λ (l : List (Resident (Item V))). AllByRecursion (InMain c loader (here ∷ h)) l) (sym rd.moved)
           (All-map (InMain c loader (here ∷ h)) (marked plain) rd.after
           (All-weaker StoodMain (λ r. InMain c loader (here ∷ h) (marked plain r)) (λ r q. main_passed r q (passes_front (words s.main) f (word_of r) ∙ q.0.1)) rd.after all.1))
 
-      pub mains_swept : sweep s.main ≡ Some w → All (InMain c loader (here ∷ h)) w.rest
+      pub mains_swept : sweep s.main ≡ Some w → AllByRecursion (InMain c loader (here ∷ h)) w.rest
       mains_swept e = ⊎_elim swept_stopped swept_round (sweeps s.main w e)
 
     -- who joins Main is renewed there

@@ -2,7 +2,7 @@
 -- so a machine of bare places and the machine of keys and values above it take the same steps.
 use Rattle.std.proofs.Common.{◌≡◌, ℕ, zero, suc, Bool, true, false, cond, not, eqb, List, [], ◌∷◌, ◌++◌, map, length, take, Some, None, filter, Option, sym, refl, ap, ◌∙◌, subst}
 use Rattle.std.specs.Option.{option_map}
-use Rattle.std.specs.List.{AllByRecursion as All}
+use Rattle.std.specs.List.{AllByRecursion}
 use Rattle.machine.specs.declared.report.Part.{Part}
 use Rattle.machine.specs.declared.report.Part.TheVariants.{Small, Main}
 use Rattle.machine.specs.Limits.{ghost_limit, window}
@@ -24,7 +24,7 @@ map_take f (suc n) [] = refl
 map_take f (suc n) (x ∷ xs) = ap (λ l. f x ∷ l) (map_take f n xs)
 
 -- a filter goes with a map where the tests agree
-pub map_kept : {A B : Type 0} (f : A → B) (t : A → Bool) (u : B → Bool) (xs : List A) → All (λ x. u (f x) ≡ t x) xs → map f (filter t xs) ≡ filter u (map f xs)
+pub map_kept : {A B : Type 0} (f : A → B) (t : A → Bool) (u : B → Bool) (xs : List A) → AllByRecursion (λ x. u (f x) ≡ t x) xs → map f (filter t xs) ≡ filter u (map f xs)
 map_kept f t u [] a = refl
 map_kept {A} {B} f t u (x ∷ xs) a =
     subst (λ (b : Bool). map f (cond (t x) (x ∷ filter t xs) (filter t xs)) ≡ cond b (f x ∷ filter u (map f xs)) (filter u (map f xs))) (sym a.0) (go (t x) (map_kept f t u xs a.1))
@@ -76,7 +76,7 @@ module _ {R S : Type 0} (f : R → S) where
   ended_carried [] = refl
   ended_carried (r ∷ rs) = ap (λ (o : Option (Ended (Resident S))). Some (before (carry_resident r) o)) (ended_carried rs) ∙ ap Some (before_carried r (ended rs))
 
-  pub hits_carried : (at : R → Bool) (on : S → Bool) (rs : List (Resident R)) → All (λ r. on (f r.item) ≡ at r.item) rs → carry_all (map (hit at) rs) ≡ map (hit on) (carry_all rs)
+  pub hits_carried : (at : R → Bool) (on : S → Bool) (rs : List (Resident R)) → AllByRecursion (λ r. on (f r.item) ≡ at r.item) rs → carry_all (map (hit at) rs) ≡ map (hit on) (carry_all rs)
   hits_carried at on [] a = refl
   hits_carried at on (r ∷ rs) a =
       let e : carry_resident (hit at r) ≡ hit on (carry_resident r) = ap (λ (b : Bool). marked (hit_if b r.mark) (carry_resident r)) (sym a.0) in
@@ -101,15 +101,15 @@ module _ {R G F R₁ G₁ F₁ : Type 0} (f : R → R₁) (g : G → G₁) (p : 
   -- ## Uses, Ghost's forgetting, drops
 
   pub uses_carried :
-      (at : R → Bool) (on : R₁ → Bool) (s : Parts R G F) → All (λ r. on (f r.item) ≡ at r.item) s.small → All (λ r. on (f r.item) ≡ at r.item) s.main → carry (uses at s) ≡ uses on (carry s)
+      (at : R → Bool) (on : R₁ → Bool) (s : Parts R G F) → AllByRecursion (λ r. on (f r.item) ≡ at r.item) s.small → AllByRecursion (λ r. on (f r.item) ≡ at r.item) s.main → carry (uses at s) ≡ uses on (carry s)
   uses_carried at on s a b i =
       record { small = hits_carried f at on s.small a i; main = hits_carried f at on s.main b i; remembered = map g s.remembered; free = map p s.free; opened = s.opened }
 
-  not_agree : {A B : Type 0} (h : A → B) (t : A → Bool) (u : B → Bool) (xs : List A) → All (λ x. u (h x) ≡ t x) xs → All (λ x. not (u (h x)) ≡ not (t x)) xs
+  not_agree : {A B : Type 0} (h : A → B) (t : A → Bool) (u : B → Bool) (xs : List A) → AllByRecursion (λ x. u (h x) ≡ t x) xs → AllByRecursion (λ x. not (u (h x)) ≡ not (t x)) xs
   not_agree h t u [] a = tt
   not_agree h t u (x ∷ xs) a = (ap not a.0, not_agree h t u xs a.1)
 
-  pub forgets_carried : (at : G → Bool) (on : G₁ → Bool) (s : Parts R G F) → All (λ x. on (g x) ≡ at x) s.remembered → carry (forgets at s) ≡ forgets on (carry s)
+  pub forgets_carried : (at : G → Bool) (on : G₁ → Bool) (s : Parts R G F) → AllByRecursion (λ x. on (g x) ≡ at x) s.remembered → carry (forgets at s) ≡ forgets on (carry s)
   forgets_carried at on s a i =
       record {
         small = carry_all f s.small;
@@ -213,15 +213,15 @@ module _ {R G F R₁ G₁ F₁ : Type 0} (f : R → R₁) (g : G → G₁) (p : 
     spots_carried [] = refl
     spots_carried (r ∷ rs) = let e = spots r.item in let q = spots_carried rs in cc
 
-    both_agree : (at : R → Bool) (on : R₁ → Bool) (xs ys : List (Resident R)) → All (λ r. on (f r.item) ≡ at r.item) xs → All (λ r. on (f r.item) ≡ at r.item) ys → All (λ r. on (f r.item) ≡ at r.item) (xs ++ ys)
+    both_agree : (at : R → Bool) (on : R₁ → Bool) (xs ys : List (Resident R)) → AllByRecursion (λ r. on (f r.item) ≡ at r.item) xs → AllByRecursion (λ r. on (f r.item) ≡ at r.item) ys → AllByRecursion (λ r. on (f r.item) ≡ at r.item) (xs ++ ys)
     both_agree at on [] ys a b = b
     both_agree at on (x ∷ xs) ys a b = (a.0, both_agree at on xs ys a.1 b)
 
     pub drops_carried :
-        (at : R → Bool) (on : R₁ → Bool) (s : Parts R G F) → All (λ r. on (f r.item) ≡ at r.item) s.small → All (λ r. on (f r.item) ≡ at r.item) s.main →
+        (at : R → Bool) (on : R₁ → Bool) (s : Parts R G F) → AllByRecursion (λ r. on (f r.item) ≡ at r.item) s.small → AllByRecursion (λ r. on (f r.item) ≡ at r.item) s.main →
         carry (drops order spot at s) ≡ drops order₁ spot₁ on (carry s)
     drops_carried at on s a b =
-        let stays = λ (rs : List (Resident R)) (q : All (λ r. on (f r.item) ≡ at r.item) rs).
+        let stays = λ (rs : List (Resident R)) (q : AllByRecursion (λ r. on (f r.item) ≡ at r.item) rs).
         map_kept (carry_resident f) (λ r. not (at r.item)) (λ r. not (on r.item)) rs (not_agree (carry_resident f) (λ r. at r.item) (λ r. on r.item) rs q) in
         let gone : carry_all f (filter (λ r. at r.item) (s.small ++ s.main)) ≡ filter (λ r. on r.item) (carry_all f s.small ++ carry_all f s.main) =
         map_kept (carry_resident f) (λ r. at r.item) (λ r. on r.item) (s.small ++ s.main) (both_agree at on s.small s.main a b)
@@ -241,6 +241,6 @@ highest_carried {F} {F₁} p place place₁ e (suc n) xs =
     ap (λ (l : List F₁). l ++ highest_first place₁ n (map p xs)) (sym q)
     ∙ (ap (λ (l : List F₁). map p (filter (λ x. eqb (place x) n) xs) ++ l) (highest_carried p place place₁ e n xs) ∙ sym (map_append p (filter (λ x. eqb (place x) n) xs) (highest_first place n xs)))
   where
-    agree : (ys : List F) → All (λ x. eqb (place₁ (p x)) n ≡ eqb (place x) n) ys
+    agree : (ys : List F) → AllByRecursion (λ x. eqb (place₁ (p x)) n ≡ eqb (place x) n) ys
     agree [] = tt
     agree (y ∷ ys) = (ap (λ (m : ℕ). eqb m n) (e y), agree ys)

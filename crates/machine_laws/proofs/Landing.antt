@@ -14,7 +14,7 @@ use Rattle.machine_laws.proofs.Keys.{same_self, occurs_append}
 use Rattle.machine_laws.proofs.Residents.{words, words_append, words_length, words_map, all_right, ended_some, ended_none}
 use Rattle.machine_laws.proofs.Sweeps.{sweeps, sweep_none}
 use Rattle.machine_laws.proofs.Limits.{main_some}
-use Rattle.std.specs.List.{AllByRecursion as All}
+use Rattle.std.specs.List.{AllByRecursion}
 use Rattle.machine_laws.proofs.Sound.{InSmall, Sound}
 use Rattle.machine_laws.proofs.Leaves.{small_late}
 use Rattle.machine_laws.proofs.Events.{moved_late}
@@ -158,7 +158,7 @@ module _ {V : Type 0} (c : ℕ) (pos : 1 ≤ c) (loader : Word → Result V Faul
   -- a used tail was hit late
   tail_hit_late : (e : Ended (Resident (Item V))) → ended s.small ≡ Some e → is_used e.tail.mark ≡ true → hit_late (window c) (word_of e.tail) h ≡ true
   tail_hit_late e q u =
-      let all = subst (λ (l : List (Resident (Item V))). All (InSmall c loader h) l) (ended_some s.small e q) good.smalls in
+      let all = subst (λ (l : List (Resident (Item V))). AllByRecursion (InSmall c loader h) l) (ended_some s.small e q) good.smalls in
       let says = (all_right (InSmall c loader h) e.front (e.tail ∷ []) all).0.0 in
       small_late (window c) e.tail.mark (newcomers (since (enters_small (word_of e.tail)) h)) (hit_late (window c) (word_of e.tail) h) says ∙ u
 

@@ -1,6 +1,6 @@
 -- Who leaves Main and who joins it, read off the keys before and after an event.
 use Rattle.std.proofs.Common.{◌≡◌, ℕ, Bool, true, false, not, ◌||◌, ◌⊎◌, List, [], ◌∷◌, ◌++◌, map, length, Some, Result, sym, refl, ap, ◌∙◌, subst, inl, inr, ⊎_elim, arith}
-use Rattle.std.specs.List.{AllByRecursion as All}
+use Rattle.std.specs.List.{AllByRecursion}
 use Rattle.std.proofs.ByRecursion.{All-map, All-weaker}
 use Rattle.std.proofs.lemmas.Bool.{or_right, not_from_true, not_from_false}
 use Rattle.loaders.specs.declared.fault.Fault.{Fault}
@@ -17,7 +17,7 @@ use Rattle.machine_laws.proofs.Sound.{InMain, Sound}
 
 -- ## Some, or none
 
-pub any_none : (p : Word → Bool) (xs : List Word) → All (λ x. p x ≡ false) xs → any p xs ≡ false
+pub any_none : (p : Word → Bool) (xs : List Word) → AllByRecursion (λ x. p x ≡ false) xs → any p xs ≡ false
 any_none p [] a = refl
 any_none p (x ∷ xs) a = rw a.0 (any_none p xs a.1)
 
@@ -29,7 +29,7 @@ any_has p j (x ∷ xs) e q = go (same j x) refl e (λ f. any_has p j xs f q)
     go true f g ih = rw (ap p (sym (same_true j x f)) ∙ q) refl
     go false f g ih = or_right (p x) (any p xs) (ih g)
 
-each_has : (xs : List Word) → All (λ j. has j xs ≡ true) xs
+each_has : (xs : List Word) → AllByRecursion (λ j. has j xs ≡ true) xs
 each_has [] = tt
 each_has (x ∷ xs) = (
   rw (same_self x) refl,
@@ -80,14 +80,14 @@ small_late w used n late p = p.1
 
 module _ {V : Type 0} (c : ℕ) (loader : Word → Result V Fault) (h : List (Event V)) (s : State V) (e : Event V) (good : Sound c loader h s) (stood : e.before.main ≡ words s.main)
     (w : Swept (Item V)) (told : chances e ≡ w.chances) (joiner : Word) (moved : e.after.main ≡ words w.rest ++ joiner ∷ []) where
-  all_hit : (xs : List (Resident (Item V))) → All (InMain c loader h) xs → All IsUsed xs → All (λ x. hit_since x h ≡ true) (words xs)
+  all_hit : (xs : List (Resident (Item V))) → AllByRecursion (InMain c loader h) xs → AllByRecursion IsUsed xs → AllByRecursion (λ x. hit_since x h ≡ true) (words xs)
   all_hit xs p u =
       All-map (λ x. hit_since x h ≡ true) word_of xs
       (All-weaker (λ r. InMain c loader h r × IsUsed r) (λ r. hit_since (word_of r) h ≡ true) (λ r q. main_used r.mark (hit_since (word_of r) h) q.0.0 q.1) xs (all_both (InMain c loader h) IsUsed xs p u))
 
   first_idle : Stopped s.main w → FirstIdle c h e joiner
   first_idle st =
-      let all = subst (λ (l : List (Resident (Item V))). All (InMain c loader h) l) st.stood good.mains in
+      let all = subst (λ (l : List (Resident (Item V))). AllByRecursion (InMain c loader h) l) st.stood good.mains in
       let back = all_right (InMain c loader h) st.passed (w.victim ∷ st.after) all in
       let front = all_left (InMain c loader h) st.passed (w.victim ∷ st.after) all in
       let rest : words w.rest ≡ words st.after ++ words st.passed =
@@ -105,7 +105,7 @@ module _ {V : Type 0} (c : ℕ) (loader : Word → Result V Fault) (h : List (Ev
 
   all_were_hit : Round s.main w → AllHit c h e joiner
   all_were_hit rd =
-      let all = subst (λ (l : List (Resident (Item V))). All (InMain c loader h) l) rd.stood good.mains in
+      let all = subst (λ (l : List (Resident (Item V))). AllByRecursion (InMain c loader h) l) rd.stood good.mains in
       let rest : words w.rest ≡ words rd.after = ap words rd.moved ∙ words_map (marked plain) (λ r. refl) rd.after in
       record {
         victim = word_of rd.first;

@@ -1,6 +1,6 @@
 -- Lists of residents: their keys, what holds of each, what a search finds in them.
 use Rattle.std.proofs.Common.{◌≡◌, ℕ, suc, ◌+◌, ◌≤◌, Bool, true, false, cond, ◌||◌, List, [], ◌∷◌, ◌++◌, map, length, Some, None, filter, Option, refl, ap, subst, arith}
-use Rattle.std.specs.List.{AllZip, AllByRecursion as All}
+use Rattle.std.specs.List.{AllZip, AllByRecursion}
 use Rattle.std.proofs.ByRecursion.{All-weaker}
 use Rattle.std.proofs.lemmas.Bool.{or_right, or_parts}
 use Rattle.machine.specs.Replacement.{Resident, Ended, ended, before, is_used}
@@ -11,21 +11,21 @@ use Rattle.machine_laws.proofs.Keys.{same_self, same_true}
 
 -- ## What holds of each
 
-pub all_both : {X : Type 0} (P Q : X → Type 0) (xs : List X) → All P xs → All Q xs → All (λ x. P x × Q x) xs
+pub all_both : {X : Type 0} (P Q : X → Type 0) (xs : List X) → AllByRecursion P xs → AllByRecursion Q xs → AllByRecursion (λ x. P x × Q x) xs
 all_both P Q [] p q = tt
 all_both P Q (x ∷ xs) p q = ((p.0, q.0), all_both P Q xs p.1 q.1)
 
 -- in a list that is cut in two, what holds of each holds of each half
-pub all_left : {X : Type 0} (P : X → Type 0) (xs ys : List X) → All P (xs ++ ys) → All P xs
+pub all_left : {X : Type 0} (P : X → Type 0) (xs ys : List X) → AllByRecursion P (xs ++ ys) → AllByRecursion P xs
 all_left P [] ys p = tt
 all_left P (x ∷ xs) ys p = (p.0, all_left P xs ys p.1)
 
-pub all_right : {X : Type 0} (P : X → Type 0) (xs ys : List X) → All P (xs ++ ys) → All P ys
+pub all_right : {X : Type 0} (P : X → Type 0) (xs ys : List X) → AllByRecursion P (xs ++ ys) → AllByRecursion P ys
 all_right P [] ys p = p
 all_right P (x ∷ xs) ys p = all_right P xs ys p.1
 
 -- one list follows another place by place, so that what holds of each in one holds of each in the other
-pub all_follow : {X : Type 0} (P Q : X → Type 0) (R : X → X → Type 0) → ((x y : X) → P x → R x y → Q y) → (xs ys : List X) → All P xs → AllZip R xs ys → All Q ys
+pub all_follow : {X : Type 0} (P Q : X → Type 0) (R : X → X → Type 0) → ((x y : X) → P x → R x y → Q y) → (xs ys : List X) → AllByRecursion P xs → AllZip R xs ys → AllByRecursion Q ys
 all_follow P Q R f [] [] p r = tt
 all_follow P Q R f [] (y ∷ ys) p r = elim r [ ]
 all_follow P Q R f (x ∷ xs) [] p r = elim r [ ]
@@ -64,7 +64,7 @@ module _ {V : Type 0} where
   words_each R f (x ∷ xs) (y ∷ ys) r = let p = f x y r.0 in let q = words_each R f xs ys r.1 in cc
 
   -- each stands in the list where it stands
-  pub all_in : (xs : List (Resident (Item V))) → All (λ r. has (word_of r) (words xs) ≡ true) xs
+  pub all_in : (xs : List (Resident (Item V))) → AllByRecursion (λ r. has (word_of r) (words xs) ≡ true) xs
   all_in [] = tt
   all_in (x ∷ xs) = (
     rw (same_self (word_of x)) refl,
@@ -73,7 +73,7 @@ module _ {V : Type 0} where
   )
 
   -- a key that is not in the list is the key of none in it
-  pub all_other : (k : Word) (xs : List (Resident (Item V))) → has k (words xs) ≡ false → All (λ r. same k (word_of r) ≡ false) xs
+  pub all_other : (k : Word) (xs : List (Resident (Item V))) → has k (words xs) ≡ false → AllByRecursion (λ r. same k (word_of r) ≡ false) xs
   all_other k [] e = tt
   all_other k (x ∷ xs) e = let p = or_parts (same k (word_of x)) (has k (words xs)) e in (p.0, all_other k xs p.1)
 
@@ -129,7 +129,7 @@ module _ {V : Type 0} where
       go false f ih = ih f
 
   -- what holds of what each resident carries holds of what is found, and that has the key
-  pub find_holds : (P : Item V → Type 0) (k : Word) (xs : List (Resident (Item V))) (i : Item V) → All (λ r. P r.item) xs → find k xs ≡ Some i → P i × (k ≡ i.word)
+  pub find_holds : (P : Item V → Type 0) (k : Word) (xs : List (Resident (Item V))) (i : Item V) → AllByRecursion (λ r. P r.item) xs → find k xs ≡ Some i → P i × (k ≡ i.word)
   find_holds P k [] i p e = let z : ◌≡◌ {A = ℕ} 0 1 = cc in absurd (omega arith)
   find_holds P k (x ∷ xs) i p e = go (same k (word_of x)) refl e (find_holds P k xs i p.1)
     where

@@ -1,6 +1,6 @@
 -- A newcomer takes its seat: the invariant holds of the state after it.
 use Rattle.std.proofs.Common.{◌≡◌, ℕ, suc, ◌+◌, ◌<◌, ◌≤◌, Bool, true, false, cond, not, ◌||◌, leb, List, [], ◌∷◌, ◌++◌, map, length, filter, Result, sym, refl, ap, ◌∙◌, subst, arith, length-append}
-use Rattle.std.specs.List.{AllByRecursion as All}
+use Rattle.std.specs.List.{AllByRecursion}
 use Rattle.std.proofs.ByRecursion.{All-push}
 use Rattle.std.proofs.lemmas.Bool.{or_right}
 use Rattle.loaders.specs.declared.fault.Fault.{Fault}
@@ -47,8 +47,8 @@ module _ {V : Type 0} (c : ℕ) (loader : Word → Result V Fault) (h : List (Ev
 
   -- what the first half of the insertion leaves
   pub record Vacates (p : State V) : Type 0 where
-    pub smalls : All (StoodSmall c loader h s t x a k v n b) p.small
-    pub mains : All (InMain c loader (event_of s x (t, a) ∷ h)) p.main
+    pub smalls : AllByRecursion (StoodSmall c loader h s t x a k v n b) p.small
+    pub mains : AllByRecursion (InMain c loader (event_of s x (t, a) ∷ h)) p.main
     pub counts : (j : Word) → occurs j (words p.small) + occurs j (words p.main) + occurs j p.remembered ≤ known j
     pub earned : n + used_in p.small + used_in p.main ≤ used_in s.small + used_in s.main
 
@@ -92,9 +92,9 @@ module _ {V : Type 0} (c : ℕ) (loader : Word → Result V Fault) (h : List (Ev
                 let m = new_alone j (occurs j (words p.small) + occurs j (words p.main) + occurs j p.remembered) (vac.counts j) in
                 omega arith;
             smalls =
-                subst (λ (l : List (Resident (Item V))). All (InSmall c loader (event_of s x (t, a) ∷ h)) l) (sym es)
+                subst (λ (l : List (Resident (Item V))). AllByRecursion (InSmall c loader (event_of s x (t, a) ∷ h)) l) (sym es)
                 (new_in_small c loader h s t x a k v n b place pos head, smalls_age c loader h s t x a k v n b new p.small vac.smalls);
-            mains = subst (λ (l : List (Resident (Item V))). All (InMain c loader (event_of s x (t, a) ∷ h)) l) (sym em) vac.mains;
+            mains = subst (λ (l : List (Resident (Item V))). AllByRecursion (InMain c loader (event_of s x (t, a) ∷ h)) l) (sym em) vac.mains;
             earned =
                 let e = ap used_in es in
                 let f = ap used_in em in
@@ -121,9 +121,9 @@ module _ {V : Type 0} (c : ℕ) (loader : Word → Result V Fault) (h : List (Ev
                 let g = ap (occurs j) eg in
                 let m = new_alone j (occurs j (words p.small) + occurs j (words p.main) + occurs j p.remembered) (vac.counts j) in
                 omega arith;
-            smalls = subst (λ (l : List (Resident (Item V))). All (InSmall c loader (event_of s x (t, a) ∷ h)) l) (sym es) (smalls_stay c loader h s t x a k v n b old p.small vac.smalls);
+            smalls = subst (λ (l : List (Resident (Item V))). AllByRecursion (InSmall c loader (event_of s x (t, a) ∷ h)) l) (sym es) (smalls_stay c loader h s t x a k v n b old p.small vac.smalls);
             mains =
-                subst (λ (l : List (Resident (Item V))). All (InMain c loader (event_of s x (t, a) ∷ h)) l) (sym em)
+                subst (λ (l : List (Resident (Item V))). AllByRecursion (InMain c loader (event_of s x (t, a) ∷ h)) l) (sym em)
                 (All-push (InMain c loader (event_of s x (t, a) ∷ h)) p.main (record { item = new_item; mark = plain }) vac.mains (new_in_main c loader h s t x a k v n b place last));
             earned =
                 let e = ap used_in es in

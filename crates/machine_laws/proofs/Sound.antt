@@ -1,6 +1,6 @@
 -- What holds of the machine's state after every history: the facts that the laws rest on.
 use Rattle.std.proofs.Common.{◌≡◌, ℕ, ◌+◌, ◌≤◌, Bool, true, false, cond, List, [], ◌∷◌, length, take, None, filter, Option, Result, unwrap_or, sym, refl, ap, subst, arith}
-use Rattle.std.specs.List.{AllZip, AllByRecursion as All}
+use Rattle.std.specs.List.{AllZip, AllByRecursion}
 use Rattle.std.proofs.lemmas.List.Elements.{length_all_zip}
 use Rattle.std.proofs.ByRecursion.{all_kept_by}
 use Rattle.std.proofs.lemmas.Bool.{or_right}
@@ -26,8 +26,8 @@ module _ {V : Type 0} (c : ℕ) (loader : Word → Result V Fault) where
     pub small_within : length s.small ≤ small_limit c
     pub main_within : length s.main ≤ main_limit c
     pub alone : (k : Word) → occurs k (words s.small) + occurs k (words s.main) + occurs k s.remembered ≤ 1
-    pub smalls : All (InSmall h) s.small
-    pub mains : All (InMain h) s.main
+    pub smalls : AllByRecursion (InSmall h) s.small
+    pub mains : AllByRecursion (InMain h) s.main
     pub earned : chances_in h + used_in s.small + used_in s.main ≤ uses_in h
 
   pub sound_start : Sound [] nothing
@@ -122,12 +122,12 @@ module _ {V : Type 0} (c : ℕ) (loader : Word → Result V Fault) (h : List (Ev
       (subst (λ (m : Mark). MainSays (word_of r) m (this ∷ h)) (sym f.1) mark, value)
 
   -- all of Small, all of Main, as they follow
-  pub calm_smalls : report_in a ≡ None → Sound c loader h s → (ys : List (Resident (Item V))) → AllZip (Follow this) s.small ys → All (InSmall c loader (this ∷ h)) ys
+  pub calm_smalls : report_in a ≡ None → Sound c loader h s → (ys : List (Resident (Item V))) → AllZip (Follow this) s.small ys → AllByRecursion (InSmall c loader (this ∷ h)) ys
   calm_smalls q good ys f =
       all_follow (λ r. InSmall c loader h r × (has (word_of r) (words s.small) ≡ true)) (InSmall c loader (this ∷ h)) (Follow this) (calm_small q) s.small ys
       (all_both (InSmall c loader h) (λ r. has (word_of r) (words s.small) ≡ true) s.small good.smalls (all_in s.small)) f
 
-  pub calm_mains : report_in a ≡ None → Sound c loader h s → (ys : List (Resident (Item V))) → AllZip (Follow this) s.main ys → All (InMain c loader (this ∷ h)) ys
+  pub calm_mains : report_in a ≡ None → Sound c loader h s → (ys : List (Resident (Item V))) → AllZip (Follow this) s.main ys → AllByRecursion (InMain c loader (this ∷ h)) ys
   calm_mains q good ys f =
       all_follow (λ r. InMain c loader h r × (has (word_of r) (words s.main) ≡ true)) (InMain c loader (this ∷ h)) (Follow this) (calm_main q) s.main ys
       (all_both (InMain c loader h) (λ r. has (word_of r) (words s.main) ≡ true) s.main good.mains (all_in s.main)) f
@@ -182,10 +182,10 @@ module _ {V : Type 0} (c : ℕ) (loader : Word → Result V Fault) (h : List (Ev
             let b = good.alone k in
             omega arith;
         smalls =
-            subst (λ (l : List (Resident (Item V))). All (InSmall c loader (this ∷ h)) l) (sym d.small_kept)
+            subst (λ (l : List (Resident (Item V))). AllByRecursion (InSmall c loader (this ∷ h)) l) (sym d.small_kept)
             (all_kept_by stays (InSmall c loader (this ∷ h)) s.small (calm_smalls d.silent good s.small (each_self (Follow this) (follow_self stays d) s.small)));
         mains =
-            subst (λ (l : List (Resident (Item V))). All (InMain c loader (this ∷ h)) l) (sym d.main_kept)
+            subst (λ (l : List (Resident (Item V))). AllByRecursion (InMain c loader (this ∷ h)) l) (sym d.main_kept)
             (all_kept_by stays (InMain c loader (this ∷ h)) s.main (calm_mains d.silent good s.main (each_self (Follow this) (follow_self stays d) s.main)));
         earned =
             let n = silent_chances d.silent in

@@ -1,6 +1,6 @@
 -- What a sweep does to Main: it passes the used ones before the first that is not, or comes round.
 use Rattle.std.proofs.Common.{◌≡◌, ℕ, suc, Bool, true, false, cond, ◌⊎◌, List, [], ◌∷◌, ◌++◌, map, length, Some, None, sym, refl, ap, ◌∙◌, subst, inl, inr, append_assoc, append-nil, arith, length-append}
-use Rattle.std.specs.List.{AllByRecursion as All}
+use Rattle.std.specs.List.{AllByRecursion}
 use Rattle.std.proofs.ByRecursion.{All-push}
 use Rattle.machine.specs.Replacement.{plain, Resident, Swept, marked, is_used, came_round, sweep_from, sweep}
 
@@ -13,7 +13,7 @@ module _ {R : Type 0} where
     pub passed : List (Resident R)
     pub after : List (Resident R)
     pub stood : main ≡ passed ++ w.victim ∷ after
-    pub used : All IsUsed passed
+    pub used : AllByRecursion IsUsed passed
     pub idle : is_used w.victim.mark ≡ false
     pub moved : w.rest ≡ after ++ map (marked plain) passed
     pub told : w.chances ≡ length passed
@@ -23,7 +23,7 @@ module _ {R : Type 0} where
     pub first : Resident R
     pub after : List (Resident R)
     pub stood : main ≡ first ∷ after
-    pub used : All IsUsed (first ∷ after)
+    pub used : AllByRecursion IsUsed (first ∷ after)
     pub victim : w.victim ≡ marked plain first
     pub moved : w.rest ≡ map (marked plain) after
     pub told : w.chances ≡ length main
@@ -32,7 +32,7 @@ module _ {R : Type 0} where
   map_push f [] r = refl
   map_push f (x ∷ xs) r = ap (λ l. f x ∷ l) (map_push f xs r)
 
-  round : (n : ℕ) (front main : List (Resident R)) (w : Swept R) → n ≡ length front → main ≡ front → All IsUsed front → came_round n (map (marked plain) front) ≡ Some w → Round main w
+  round : (n : ℕ) (front main : List (Resident R)) (w : Swept R) → n ≡ length front → main ≡ front → AllByRecursion IsUsed front → came_round n (map (marked plain) front) ≡ Some w → Round main w
   round n [] main w en em u e = let z : ◌≡◌ {A = ℕ} 0 1 = cc in absurd (omega arith)
   round n (x ∷ xs) main w en em u e =
       let q : ◌≡◌ {A = Swept R} (record { victim = marked plain x; rest = map (marked plain) xs; chances = n }) w = cc in
@@ -47,7 +47,7 @@ module _ {R : Type 0} where
       }
 
   sweeps_from :
-      (rs front passed main : List (Resident R)) (n : ℕ) (w : Swept R) → n ≡ length front → passed ≡ map (marked plain) front → main ≡ front ++ rs → All IsUsed front →
+      (rs front passed main : List (Resident R)) (n : ℕ) (w : Swept R) → n ≡ length front → passed ≡ map (marked plain) front → main ≡ front ++ rs → AllByRecursion IsUsed front →
       sweep_from n passed rs ≡ Some w → Stopped main w ⊎ Round main w
   sweeps_from [] front passed main n w en ep em u e =
       inr (round n front main w en (em ∙ append-nil front) u (subst (λ (p : List (Resident R)). came_round n p ≡ Some w) ep e))

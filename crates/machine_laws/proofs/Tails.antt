@@ -1,6 +1,6 @@
 -- The two plans for a newcomer of Small in a full cache: the tail moves to Main, or it goes to Ghost.
 use Rattle.std.proofs.Common.{◌≡◌, ℕ, zero, suc, ◌+◌, ◌≤◌, true, false, cond, not, leb, List, [], ◌∷◌, ◌++◌, map, length, take, Some, Result, sym, refl, ap, ◌∙◌, subst, arith, length-append}
-use Rattle.std.specs.List.{AllByRecursion as All}
+use Rattle.std.specs.List.{AllByRecursion}
 use Rattle.std.proofs.ByRecursion.{All-push}
 use Rattle.std.proofs.lemmas.Bool.{and_from, le-leb}
 use Rattle.loaders.specs.declared.fault.Fault.{Fault}
@@ -49,10 +49,10 @@ module _ {V : Type 0} (c : ℕ) (pos : 1 ≤ c) (loader : Word → Result V Faul
   small_used : used_in s.small ≡ used_in e.front + cond (is_used e.tail.mark) 1 0
   small_used = let q = ap used_in stood ∙ used_append e.front (e.tail ∷ []) in omega arith
 
-  all_stood : All (StoodSmall c loader h s t x a k v n b) (e.front ++ e.tail ∷ [])
-  all_stood = subst (λ (l : List (Resident (Item V))). All (StoodSmall c loader h s t x a k v n b) l) stood (stood_smalls c loader h s t x a k v n b good)
+  all_stood : AllByRecursion (StoodSmall c loader h s t x a k v n b) (e.front ++ e.tail ∷ [])
+  all_stood = subst (λ (l : List (Resident (Item V))). AllByRecursion (StoodSmall c loader h s t x a k v n b) l) stood (stood_smalls c loader h s t x a k v n b good)
 
-  front_stood : All (StoodSmall c loader h s t x a k v n b) e.front
+  front_stood : AllByRecursion (StoodSmall c loader h s t x a k v n b) e.front
   front_stood = all_left (StoodSmall c loader h s t x a k v n b) e.front (e.tail ∷ []) all_stood
 
   tail_stood : StoodSmall c loader h s t x a k v n b e.tail

@@ -1,6 +1,6 @@
 -- Where Small has room for one, its resident is always young, so no use hits it late.
 use Rattle.std.proofs.Common.{◌≡◌, ℕ, ◌/◌, ◌≤◌, max, Bool, true, false, cond, not, ◌||◌, eqb, leb, List, [], ◌∷◌, map, length, Some, None, Ok, Err, Option, Result, sym, refl, ap, ◌∙◌, subst, arith}
-use Rattle.std.specs.List.{AllByRecursion as All}
+use Rattle.std.specs.List.{AllByRecursion}
 use Rattle.std.proofs.ByRecursion.{All-map, All-weaker, all_kept_by}
 use Rattle.std.proofs.lemmas.Bool.{leb-true, true≢false}
 use Rattle.loaders.specs.declared.fault.Fault.{Fault}
@@ -30,26 +30,26 @@ module _ {V : Type 0} where
   abbrev Young : Resident (Item V) → Type 0
   Young r = r.mark ≡ young 0
 
-  uses_young : (at : Item V → Bool) (xs : List (Resident (Item V))) → All Young xs → All Young (map (hit at) xs)
+  uses_young : (at : Item V → Bool) (xs : List (Resident (Item V))) → AllByRecursion Young xs → AllByRecursion Young (map (hit at) xs)
   uses_young at xs p = All-map Young (hit at) xs (All-weaker Young (λ r. Young (hit at r)) (λ r e. hit_young (at r.item) r.mark e) xs p)
 
-  lays_young : (k : Word) (v : V) (xs : List (Resident (Item V))) → All Young xs → All Young (map (relaid k v) xs)
+  lays_young : (k : Word) (v : V) (xs : List (Resident (Item V))) → AllByRecursion Young xs → AllByRecursion Young (map (relaid k v) xs)
   lays_young k v xs p = All-map Young (relaid k v) xs p
 
   -- a newcomer that has Small for itself
   alone_young :
       (c : ℕ) (k : Word) (v : V) (place : ℕ) (xs : List (Resident (Item V))) →
       let new : Resident (Item V) = record { item = record { word = k; place = place; value = v }; mark = young 0 } in
-      length (new ∷ map (older c) xs) ≤ 1 → All Young (new ∷ map (older c) xs)
+      length (new ∷ map (older c) xs) ≤ 1 → AllByRecursion Young (new ∷ map (older c) xs)
   alone_young c k v place [] l = (refl, tt)
   alone_young c k v place (x ∷ xs) l = absurd (omega arith)
 
-  module _ (c : ℕ) (k : Word) (v : V) (s : State V) (p : All Young s.small) where
+  module _ (c : ℕ) (k : Word) (v : V) (s : State V) (p : AllByRecursion Young s.small) where
     abbrev gone : State V
     gone = forgets (same k) s
 
     abbrev Seats : Vacated (Item V) Word (Cell V) → Type 0
-    Seats va = length (settled c k v va).small ≤ 1 → All Young (settled c k v va).small
+    Seats va = length (settled c k v va).small ≤ 1 → AllByRecursion Young (settled c k v va).small
 
     popped_small : (fs : List (Cell V)) → Seats (popped Small gone fs)
     popped_small [] l = alone_young c k v s.opened s.small l
@@ -82,34 +82,34 @@ module _ {V : Type 0} where
     settled_young : Seats (arrival c k s)
     settled_young = by_plan (to_main c (has k s.remembered) gone) (vacancy c s) (main_full c s) (is_tail_used (ended s.small))
 
-  module _ (c : ℕ) (loader : Word → Result V Fault) (order : Order V) (s : State V) (p : All Young s.small) where
-    got_young : (k : Word) (o : Option (Item V)) → All Young (got s k o).0.small
+  module _ (c : ℕ) (loader : Word → Result V Fault) (order : Order V) (s : State V) (p : AllByRecursion Young s.small) where
+    got_young : (k : Word) (o : Option (Item V)) → AllByRecursion Young (got s k o).0.small
     got_young k None = p
     got_young k (Some i) = uses_young (is_at k) s.small p
 
-    written_young : (q : ℕ) (k : Word) (v : V) (o : Option (Item V)) → All Young (written s q k v o).0.small
+    written_young : (q : ℕ) (k : Word) (v : V) (o : Option (Item V)) → AllByRecursion Young (written s q k v o).0.small
     written_young q k v None = p
     written_young q k v (Some i) = lays_young k v s.small p
 
-    removed_young : (k : Word) (o : Option (Item V)) → All Young (removed s k o).0.small
+    removed_young : (k : Word) (o : Option (Item V)) → AllByRecursion Young (removed s k o).0.small
     removed_young k None = p
     removed_young k (Some i) = all_kept_by (λ r. not (is_at k r.item)) Young s.small p
 
-    put_young : (k : Word) (v : V) (b : Bool) (o : Option (Item V)) → length (unless b s (put_on c s k v o)).0.small ≤ 1 → All Young (unless b s (put_on c s k v o)).0.small
+    put_young : (k : Word) (v : V) (b : Bool) (o : Option (Item V)) → length (unless b s (put_on c s k v o)).0.small ≤ 1 → AllByRecursion Young (unless b s (put_on c s k v o)).0.small
     put_young k v true o l = p
     put_young k v false None l = settled_young c k v s p l
     put_young k v false (Some i) l = lays_young k v (map (hit (is_at k)) s.small) (uses_young (is_at k) s.small p)
 
-    loaded_young : (k : Word) (o : Result V Fault) → length (loaded_on c s k o).0.small ≤ 1 → All Young (loaded_on c s k o).0.small
+    loaded_young : (k : Word) (o : Result V Fault) → length (loaded_on c s k o).0.small ≤ 1 → AllByRecursion Young (loaded_on c s k o).0.small
     loaded_young k (Err f) l = p
     loaded_young k (Ok v) l = settled_young c k v s p l
 
-    fetch_young : (k : Word) (b : Bool) (o : Option (Item V)) → length (unless b s (fetch_on c loader s k o)).0.small ≤ 1 → All Young (unless b s (fetch_on c loader s k o)).0.small
+    fetch_young : (k : Word) (b : Bool) (o : Option (Item V)) → length (unless b s (fetch_on c loader s k o)).0.small ≤ 1 → AllByRecursion Young (unless b s (fetch_on c loader s k o)).0.small
     fetch_young k true o l = p
     fetch_young k false None l = loaded_young k (loader k) l
     fetch_young k false (Some i) l = uses_young (is_at k) s.small p
 
-    step_young : (x : Asked V) → length (step c loader order s x).0.small ≤ 1 → All Young (step c loader order s x).0.small
+    step_young : (x : Asked V) → length (step c loader order s x).0.small ≤ 1 → AllByRecursion Young (step c loader order s x).0.small
     step_young (Contains k) l = p
     step_young (Peek k) l = p
     step_young (Get k) l = got_young k (look k s)
@@ -122,14 +122,14 @@ module _ {V : Type 0} where
     step_young Clear l = tt
 
   module _ (c : ℕ) (pos : 1 ≤ c) (two : 2 ≤ c) (nineteen : c ≤ 19) (loader : Word → Result V Fault) (order : Order V) where
-    young_after : (calls : List (Asked V)) → All Young (state_after c loader order calls).small
+    young_after : (calls : List (Asked V)) → AllByRecursion Young (state_after c loader order calls).small
     young_after [] = tt
     young_after (x ∷ past) =
         step_young c loader order (state_after c loader order past) (young_after past) x
         (let b = (sound_after c pos loader order (x ∷ past)).small_within in let q = one_in_small c (leb c 1) refl two nineteen in omega arith)
 
     -- no resident of Small was hit late
-    none_late : (calls : List (Asked V)) (k : Word) (xs : List (Resident (Item V))) → All (λ r. InSmall c loader (history c loader order calls) r × Young r) xs → has k (words xs) ≡ true → hit_late (window c) k (history c loader order calls) ≡ false
+    none_late : (calls : List (Asked V)) (k : Word) (xs : List (Resident (Item V))) → AllByRecursion (λ r. InSmall c loader (history c loader order calls) r × Young r) xs → has k (words xs) ≡ true → hit_late (window c) k (history c loader order calls) ≡ false
     none_late calls k [] a e = absurd (true≢false (sym e))
     none_late calls k (r ∷ rs) a e = go (same k (word_of r)) refl e (none_late calls k rs a.1)
       where

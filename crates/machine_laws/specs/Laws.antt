@@ -1,6 +1,6 @@
 -- The laws: what holds of every event of every run, in the words of the run.
 use Rattle.std.specs.Prelude.{◌≡◌, ℕ, ◌+◌, ◌≤◌, Bool, true, false, not, ◌&&◌, ◌||◌, ◌⊎◌, ◌↔◌, List, [], ◌∷◌, ◌++◌, map, length, Some, None, Ok, Err, Option, Result, ◌==◌, nat_le, nat_lt}
-use Rattle.std.specs.List.{AllByRecursion as All}
+use Rattle.std.specs.List.{AllByRecursion}
 use Rattle.loaders.specs.declared.fault.Fault.{Fault}
 use Rattle.machine.specs.declared.refusal.Refusal.TheVariants.{NotLoaded}
 use Rattle.machine.specs.declared.call.Call.TheVariants.{Fetch}
@@ -45,7 +45,7 @@ module _ {V : Type 0} (c : ℕ) (h : List (Event V)) (e : Event V) where
     pub victim : Word
     pub rest : List Word
     pub stood : e.before.main ≡ passed ++ victim ∷ rest
-    pub hit : All (λ x. hit_since x h ≡ true) passed
+    pub hit : AllByRecursion (λ x. hit_since x h ≡ true) passed
     pub idle : hit_since victim h ≡ false
     pub moved : e.after.main ≡ rest ++ passed ++ joiner ∷ []
     pub told : chances e ≡ length passed
@@ -55,7 +55,7 @@ module _ {V : Type 0} (c : ℕ) (h : List (Event V)) (e : Event V) where
     pub victim : Word
     pub rest : List Word
     pub stood : e.before.main ≡ victim ∷ rest
-    pub hit : All (λ x. hit_since x h ≡ true) (victim ∷ rest)
+    pub hit : AllByRecursion (λ x. hit_since x h ≡ true) (victim ∷ rest)
     pub moved : e.after.main ≡ rest ++ joiner ∷ []
     pub told : chances e ≡ length (victim ∷ rest)
 

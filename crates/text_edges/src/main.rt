@@ -1,4 +1,5 @@
 //! Runs the readers of text over a table of edge cases: standard input has a reader's name and a text on each line.
+#![tactic(auto)]
 
 use anyhow::{Context, anyhow};
 use keys::kind::WrittenKey;

@@ -1,4 +1,4 @@
-use Rattle.std.proofs.Common.{◌≡◌, ℕ, suc, ◌+◌, ◌<◌, List, sym, refl, ap, ◌∙◌, subst, add-one, arith}
+use Rattle.std.proofs.Common.{◌≡◌, ℕ, suc, List, sym, subst, add-one, arith}
 use Rattle.machine.specs.declared.call.Answer.{Answer}
 use Rattle.cache.proofs.Performing.{Midway, start, turn, end}
 use Rattle.cache.proofs.runs.perform_all_in.Goals as goal

@@ -1,4 +1,4 @@
-use Rattle.std.proofs.Common.{◌≡◌, ℕ, ◌≤◌, sym, arith}
+use Rattle.std.proofs.Common.{◌≤◌, sym, arith}
 use Rattle.index.specs.Filed.{bears}
 use Rattle.policy.specs.View.{view}
 use Rattle.records.specs.declared.column.Column.TheVariants.{Resident}

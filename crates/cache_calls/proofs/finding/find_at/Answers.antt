@@ -1,4 +1,4 @@
-use Rattle.std.proofs.Common.{◌≡◌, ℕ, ◌<◌, ◌≤◌, true, false, ◌&&◌, ◌⊎◌, length, sym, refl, ap, ◌∙◌, subst, inl, inr, arith}
+use Rattle.std.proofs.Common.{ℕ, ◌≤◌, length, sym, ap, ◌∙◌, inl, inr, arith}
 use Rattle.std.proofs.lemmas.Bool.{cases_lt}
 use Rattle.index.specs.Filed.{bears}
 use Rattle.queues.specs.Held.{resides}
@@ -6,7 +6,7 @@ use Rattle.policy.specs.View.{view}
 use Rattle.records.specs.declared.column.Column.TheVariants.{Resident}
 use Rattle.records.specs.Columns.{word_at}
 use Rattle.machine.specs.Machine.{in_place, look}
-use Rattle.cache_core.specs.View.{state, item_at}
+use Rattle.cache_core.specs.View.{state}
 use Rattle.cache_core.proofs.Standing.{orderly, place_within}
 use Rattle.cache_core.proofs.Looked.{bears_within}
 use Rattle.cache_calls.proofs.Finds.{bears_first, stands_first, stands_looked, stands_not, none_past}

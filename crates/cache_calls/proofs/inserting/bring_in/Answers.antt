@@ -14,14 +14,14 @@ returns g c =
     let x = c.args.inner.now in
     let w = c.set_value.ensures in
     let told = c.report_of.ensures in
-    let a = c.in-Some.ensures in (
+    let a = c.in-Some.ensures.within in (
       ap (λ (q : Policy). q.core.capacity) w.policy ∙ a.1.0,
       λ t h absent.
           (let e = a.1.1 t h absent in
           record {
-            next = λ d. w.lays d (g.K.Key.meaning key) e.0.tied e.0.resides ∙ e.0.settles d v;
+            next = λ d. w.lays d (g.K.Key.meaning key) e.0.within e.0.resides ∙ e.0.settles d v;
             told = λ d. told ∙ sym (e.0.report d);
-            tied = w.tied e.0.tied;
+            tied = w.within e.0.within;
             laid =
                 ap (bare {K = g.row.K.Denot} {V = g.row.V.Denot}) w.records
                 ∙ (bare_valued {K = g.row.K.Denot} {V = g.row.V.Denot} c.admit.new.inner.records.now place v

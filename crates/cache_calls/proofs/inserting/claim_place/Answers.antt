@@ -1,4 +1,4 @@
-use Rattle.std.proofs.Common.{◌≡◌, ℕ, ◌<◌, Bool, cond, eqb, length, sym, ap, ◌∙◌, arith}
+use Rattle.std.proofs.Common.{ℕ, ◌<◌, cond, eqb, length, sym, ap, ◌∙◌, arith}
 use Rattle.machine.specs.declared.report.Report.{Report}
 use Rattle.policy.specs.declared.policy.Policy.{Policy}
 use Rattle.policy.specs.View.{view}
@@ -24,18 +24,18 @@ returns g c =
     let v = c.lying_in-value.result in
     let w = c.set_value.ensures in
     let told = c.report_of.ensures in
-    let a = c.in-Some.ensures in (
+    let a = c.in-Some.ensures.within in (
       ap (λ (q : Policy). q.core.capacity) w.policy ∙ a.1.0,
       λ t h absent.
           (let e = a.1.1 t h absent in
           let long = long_kept {K = g.row.K.Denot} {V = g.row.V.Denot} rs y₁.records.now place key e.1 in
           let there = (passes {K = g.row.K.Denot} {V = g.row.V.Denot} mean Resident y₁.records.now (mean key) (places (view y₁.policy.core)) place e.0.resides).1 in
-          let low = place_within y₁.policy (length y₁.records.now) e.0.tied.sized place there in
+          let low = place_within y₁.policy (length y₁.records.now) e.0.within.sized place there in
           let within : place < length rs = omega arith in (
             record {
-              next = λ d. w.lays d (mean key) e.0.tied e.0.resides ∙ e.0.settles d v;
+              next = λ d. w.lays d (mean key) e.0.within e.0.resides ∙ e.0.settles d v;
               told = λ d. told ∙ sym (e.0.report d);
-              tied = w.tied e.0.tied;
+              tied = w.within e.0.within;
               laid =
                   ap (bare {K = g.row.K.Denot} {V = g.row.V.Denot}) w.records
                   ∙ (bare_valued {K = g.row.K.Denot} {V = g.row.V.Denot} y₁.records.now place v

@@ -1,4 +1,4 @@
-use Rattle.std.proofs.Common.{◌≡◌, ℕ, ◌≤◌, true, false, sym, arith}
+use Rattle.std.proofs.Common.{◌≤◌, true, sym, arith}
 use Rattle.index.specs.Filed.{bears}
 use Rattle.index.proofs.Firsts.{not_both}
 use Rattle.policy.specs.View.{view}

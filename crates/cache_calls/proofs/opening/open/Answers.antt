@@ -1,4 +1,4 @@
-use Rattle.std.proofs.Common.{ℕ, length, refl, ap, ◌∙◌, arith}
+use Rattle.std.proofs.Common.{length, refl, ap, ◌∙◌, arith}
 use Rattle.policy.specs.View.{view}
 use Rattle.cache_core.specs.View.{seen}
 use Rattle.cache_core.proofs.Cleared.{nothing_tied}

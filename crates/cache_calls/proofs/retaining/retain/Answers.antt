@@ -1,4 +1,4 @@
-use Rattle.std.proofs.Common.{◌≡◌, ℕ, ◌<◌, ◌≤◌, false, List, sym, refl, ap, ◌∙◌, subst, add-one, arith}
+use Rattle.std.proofs.Common.{◌≡◌, ℕ, ◌<◌, ◌≤◌, false, List, sym, ap, ◌∙◌, subst, add-one, arith}
 use lib.ListN.{length-replicate}
 use Rattle.machine.specs.Replacement.{Parts, drops, highest_first}
 use Rattle.policy.specs.declared.policy.Policy.{Policy}
@@ -8,7 +8,7 @@ use Rattle.records.specs.declared.record.Record.{Record}
 use Rattle.cache_core.specs.View.{seen}
 use Rattle.cache_core.specs.Tied.{TiedWithin}
 use Rattle.cache_core.proofs.Standing.{orderly}
-use Rattle.cache_calls.proofs.Sifted.{Midway, asked_to, start, turn, none_up}
+use Rattle.cache_calls.proofs.Sifted.{asked_to, start, turn, none_up}
 use Rattle.cache_calls.proofs.Retained.{retained_state, retained_tied, asked_once}
 use Rattle.cache_calls.proofs.retaining.retain.Goals as goal
 

@@ -1,4 +1,4 @@
-use Rattle.std.proofs.Common.{ℕ, ◌≤◌, List, Option, sym, ap, ◌∙◌, arith}
+use Rattle.std.proofs.Common.{◌≤◌, List, Option, sym, ap, ◌∙◌, arith}
 use Rattle.machine.specs.Machine.{Item, lays}
 use Rattle.index.specs.Filed.{bears}
 use Rattle.policy.specs.declared.policy.Policy.{Policy}
@@ -35,7 +35,7 @@ returns-in-Some g c =
             λ d.
                 put_some cap pos (state {K = g.row.K.Denot} mean d x) (state {K = g.row.K.Denot} mean d y) word v (item_at {K = g.row.K.Denot} mean d rs place) c.use_value-old.result (sym (f.look d t h))
                 (w.lays d word (u.tied t) still ∙ ap (lays word v) (u.next d word t (f.first t h))) (u.value d),
-            w.tied (u.tied t),
+            w.within (u.tied t),
           ));
       records = λ t d.
           ap (bare {K = g.row.K.Denot} {V = g.row.V.Denot}) w.records

@@ -1,4 +1,4 @@
-use Rattle.std.proofs.Common.{ℕ, Ok, sym, refl, ap, ◌∙◌}
+use Rattle.std.proofs.Common.{ℕ, Ok, sym, ap, ◌∙◌}
 use Rattle.machine.specs.Machine.{written}
 use Rattle.policy.specs.declared.policy.Policy.{Policy}
 use Rattle.cache_core.specs.View.{state, bare, revalued}
@@ -19,7 +19,7 @@ returns-in-Some g c =
         λ d.
             ap (written (state {K = g.row.K.Denot} mean d x) p word v) (sym (f.look d t))
             ∙ λ j. (sym (w.lays d word t (f.resides t)) j, Ok tt),
-        w.tied t,
+        w.within t,
       );
       records =
           ap (bare {K = g.row.K.Denot} {V = g.row.V.Denot}) w.records
