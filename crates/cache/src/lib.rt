@@ -1,7 +1,6 @@
 //! The cache: opening, every call, and whole lists of calls with the laws over runs.
 #![tactic(auto)]
 
-mod answers;
 mod cache;
 mod calls;
 mod runs;

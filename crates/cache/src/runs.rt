@@ -1,22 +1,19 @@
 //! Calls by lists: on a cache as it is, and on one opened new, with the laws over runs.
 
 ghost use Rattle.std.specs.Prelude.{◌≡◌, ◌<◌, length, slice_set};
-ghost use Rattle.cache_core.specs.View.{state};
-ghost use Rattle.cache_core.specs.Tied.{Within};
 ghost use Rattle.cache.specs.Run.{Performed, Plays};
 
 use crate::cache::Cache;
 use crate::calls::measure;
-use crate::step::perform_in;
 use cache_calls::AskedKeepRule;
-use cache_core::Inner;
 use keys::kind::HashedKey;
 use loaders::loader::Loader;
 use machine::call::{Answer, Call};
 use machine::refusal::Refusal;
 use records::Record;
 
-/// Lays an answer in its place.
+/// Lays an answer in its place. Here and not in the loop: that the answer lies within memory follows from the length of
+/// the slice as it was lent.
 fn lay_answer<V: Copy>(answers: &mut [Answer<V>], index: usize, answer: Answer<V>)
     requires { index < length answers.old }
     ensures { answers.new ≡ slice_set answers.old index answer }
@@ -24,24 +21,26 @@ fn lay_answer<V: Copy>(answers: &mut [Answer<V>], index: usize, answer: Answer<V
     answers[index] = answer;
 }
 
-/// Makes calls one after the other and lays the answers in their order, as far as there is room for them. Says how
-/// many calls were made.
-pub(crate) fn perform_all_in<K: HashedKey, V: Copy, L: Loader<K, V>, R: AskedKeepRule<K, V> + Copy>(
-    inner: &mut Inner<'_, K, V>,
-    loader: &mut L,
-    calls: &[Call<K, V, R>],
-    answers: &mut [Answer<V>],
-) -> usize
-    ensures performed { Performed K.Key.meaning K.HashedKey.hashed R.AskedKeepRule.keeps (L.Loader.given loader.old) inner.old calls.now answers.old answers.new result inner.new }
-    ensures meaning { L.Loader.given loader.new ≡ L.Loader.given loader.old }
-    ensures capacity { inner.new.policy.core.capacity ≡ inner.old.policy.core.capacity }
-{
-    let count = calls.len().min(answers.len());
-    'calls: for i in 0..count {
-        let answer = perform_in(inner, loader, &calls[i]);
-        lay_answer(answers, i, answer);
+impl<'a, K: HashedKey, V: Copy> Cache<'a, K, V> {
+    /// Makes calls one after the other and lays the answers in their order, as far as there is room for them. Says how
+    /// many calls were made.
+    pub(crate) fn perform_all<L: Loader<K, V>, R: AskedKeepRule<K, V> + Copy>(
+        &mut self,
+        loader: &mut L,
+        calls: &[Call<K, V, R>],
+        answers: &mut [Answer<V>],
+    ) -> usize
+        ensures performed { Performed K.Key.meaning R.AskedKeepRule.keeps (L.Loader.given loader.old) self.old.inner calls.now answers.old answers.new result self.new.inner }
+        ensures meaning { L.Loader.given loader.new ≡ L.Loader.given loader.old }
+        ensures capacity { self.new.inner.policy.core.capacity ≡ self.old.inner.policy.core.capacity }
+    {
+        let count = calls.len().min(answers.len());
+        'calls: for i in 0..count {
+            let answer = self.perform(loader, &calls[i]);
+            lay_answer(answers, i, answer);
+        }
+        count
     }
-    count
 }
 
 /// Plays calls on a cache opened new over these records, with one loader behind every fetch, and lays the answers in
@@ -56,6 +55,5 @@ pub fn play<K: HashedKey, V: Copy, L: Loader<K, V>, R: AskedKeepRule<K, V> + Cop
     ensures meaning { L.Loader.given loader.new ≡ L.Loader.given loader.old }
 {
     measure(records)?;
-    let mut cache = Cache::open(records);
-    Ok(perform_all_in(&mut cache.inner, loader, calls, answers))
+    Ok(Cache::open(records).perform_all(loader, calls, answers))
 }

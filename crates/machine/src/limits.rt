@@ -26,7 +26,7 @@ impl Limits {
             small,
             main: capacity - small,
             ghost_keys: capacity / 2,
-            window: small / 2 + small % 2,
+            window: small.div_ceil(2),
         }
     }
 }
