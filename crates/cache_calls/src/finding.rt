@@ -18,20 +18,15 @@ use records::{Column, key_in};
 pub(crate) fn is_resident<K: HashedKey, V: Copy>(inner: &Inner<'_, K, V>, place: u16) -> bool
     ensures { result ≡ resides place (view inner.now.policy.core) }
 {
-    match inner.policy.location(place) {
-        Location::Free => false,
-        Location::Small | Location::Main => true,
-    }
+    inner.policy.location(place) != Location::Free
 }
 
 /// Whether a place is the resident's that has this key.
 fn stands_in<K: HashedKey, V: Copy>(inner: &Inner<'_, K, V>, place: u16, key: &K) -> bool
     ensures { result ≡ bears (word_at K.Key.meaning of_resident inner.now.records.now) (K.Key.meaning key.now) place && resides place (view inner.now.policy.core) }
 {
-    match key_in(inner.records, Column::Resident, place) {
-        Some(held) => key.same(&held) && is_resident(inner, place),
-        None => false,
-    }
+    key_in(inner.records, Column::Resident, place).is_some_and(|held| key.same(&held))
+        && is_resident(inner, place)
 }
 
 /// The place given, if it is the resident's that has this key.
@@ -45,12 +40,6 @@ pub(crate) fn find_at<K: HashedKey, V: Copy>(
     ensures resides { Within K.Key.meaning K.HashedKey.hashed inner.now → IfSome result (λ p. Resides K.Key.meaning K.HashedKey.hashed (K.Key.meaning key.now) p inner.now) }
     ensures look { (d : V) → Within K.Key.meaning K.HashedKey.hashed inner.now → option_map (item_at K.Key.meaning d inner.now.records.now) result ≡ in_place place (look (K.Key.meaning key.now) (state K.Key.meaning d inner.now)) }
 {
-    match u16::try_from(place) {
-        Ok(narrow) => if stands_in(inner, narrow, key) {
-            Some(narrow)
-        } else {
-            None
-        },
-        Err(_) => None,
-    }
+    let narrow = u16::try_from(place).ok()?;
+    stands_in(inner, narrow, key).then_some(narrow)
 }

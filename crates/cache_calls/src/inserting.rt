@@ -30,23 +30,20 @@ pub(crate) fn bring_in<K: HashedKey, V: Copy>(
     requires { 1 ≤ inner.old.policy.core.capacity }
     ensures { Brings K.Key.meaning K.HashedKey.hashed inner.old hash key value result inner.new }
 {
-    match admit(inner, hash, key) {
-        Some(inserted) => {
-            set_value(inner, inserted.place, value);
-            report_of(inserted)
-        }
-        None => unreachable(),
-    }
+    let Some(inserted) = admit(inner, hash, key) else {
+        unreachable!()
+    };
+    set_value(inner, inserted.place, value);
+    report_of(inserted)
 }
 
 /// The value in a record, or another where there is no such record.
 fn value_or<K: Copy, V: Copy>(records: &[Record<K, V>], place: u16, other: V) -> V
     ensures { result ≡ value_at other records.now place }
 {
-    if place as usize >= records.len() {
-        return other;
-    }
-    records[place as usize].value
+    records
+        .get(place as usize)
+        .map_or(other, |record| record.value)
 }
 
 /// What a claim finds in a newcomer's place: the given value if the place was never opened, else what lies there.
@@ -76,12 +73,10 @@ pub(crate) fn claim_place<K: HashedKey, V: Copy>(
     ensures { Claims K.Key.meaning K.HashedKey.hashed inner.old hash key given result inner.new }
 {
     let opened = inner.policy.opened();
-    match admit(inner, hash, key) {
-        Some(inserted) => {
-            let value = lying_in(inner, inserted.place, opened, given);
-            set_value(inner, inserted.place, value);
-            (value, report_of(inserted))
-        }
-        None => unreachable(),
-    }
+    let Some(inserted) = admit(inner, hash, key) else {
+        unreachable!()
+    };
+    let value = lying_in(inner, inserted.place, opened, given);
+    set_value(inner, inserted.place, value);
+    (value, report_of(inserted))
 }

@@ -29,11 +29,9 @@ pub fn fetch<K: HashedKey, V: Copy, L: Loader<K, V>>(
         return Err(Refusal::NoCapacity);
     }
     let hash = key.hash();
-    match find_resident(inner, hash, &key) {
-        Some(place) => Ok(Fetched::Held(use_value(inner, place))),
-        None => match loader.ask(&key) {
-            Ok(value) => Ok(Fetched::New(value, bring_in(inner, hash, key, value))),
-            Err(fault) => Err(Refusal::NotLoaded(fault)),
-        },
+    if let Some(place) = find_resident(inner, hash, &key) {
+        return Ok(Fetched::Held(use_value(inner, place)));
     }
+    let value = loader.ask(&key)?;
+    Ok(Fetched::New(value, bring_in(inner, hash, key, value)))
 }

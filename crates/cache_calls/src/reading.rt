@@ -5,22 +5,13 @@ ghost use Rattle.cache_calls.specs.Calls.{Tells};
 
 use cache_core::{Inner, find_resident};
 use keys::kind::HashedKey;
-use records::Record;
-
-/// The value in a record.
-fn value_in<K: Copy, V: Copy>(records: &[Record<K, V>], place: u16) -> V
-    requires { place < length records.now }
-    ensures { (d : V) → result ≡ value_at d records.now place }
-{
-    records[place as usize].value
-}
 
 /// The value in a place.
 pub(crate) fn value_of<K: HashedKey, V: Copy>(inner: &Inner<'_, K, V>, place: u16) -> V
     requires { place < length inner.now.records.now }
     ensures { (d : V) → result ≡ value_at d inner.now.records.now place }
 {
-    value_in(inner.records, place)
+    inner.records[place as usize].value
 }
 
 /// Whether a key is resident.
@@ -34,8 +25,6 @@ pub fn contains<K: HashedKey, V: Copy>(inner: &Inner<'_, K, V>, key: &K) -> bool
 pub fn peek<K: HashedKey, V: Copy>(inner: &Inner<'_, K, V>, key: &K) -> Option<V>
     ensures { Tells K.Key.meaning K.HashedKey.hashed (λ s. lookup s (K.Key.meaning key.now)) inner.now result }
 {
-    match find_resident(inner, key.hash(), key) {
-        Some(place) => Some(value_of(inner, place)),
-        None => None,
-    }
+    let place = find_resident(inner, key.hash(), key)?;
+    Some(value_of(inner, place))
 }

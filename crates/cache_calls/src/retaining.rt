@@ -22,10 +22,9 @@ fn refuses<K: HashedKey, V: Copy, R: AskedKeepRule<K, V>>(
     ensures asked { rule.new ≡ asked_of K.Key.meaning R.AskedKeepRule.after records.now place rule.old }
     ensures meaning { R.AskedKeepRule.keeps rule.new ≡ R.AskedKeepRule.keeps rule.old }
 {
-    if place as usize >= records.len() {
+    let Some(record) = records.get(place as usize) else {
         return false;
-    }
-    let record = records[place as usize];
+    };
     !rule.keep(&record.key, &record.value)
 }
 
@@ -39,11 +38,7 @@ fn is_dropped<K: HashedKey, V: Copy, R: AskedKeepRule<K, V>>(
     ensures asked { rule.new ≡ asked_at K.Key.meaning R.AskedKeepRule.after inner.now place rule.old }
     ensures meaning { R.AskedKeepRule.keeps rule.new ≡ R.AskedKeepRule.keeps rule.old }
 {
-    if is_resident(inner, place) {
-        refuses(inner.records, rule, place)
-    } else {
-        false
-    }
+    is_resident(inner, place) && refuses(inner.records, rule, place)
 }
 
 /// Asks a rule about the resident of a place; one that is refused is flagged, and its key leaves the index.

@@ -24,10 +24,8 @@ pub fn get<K: HashedKey, V: Copy>(inner: &mut Inner<'_, K, V>, key: &K) -> Optio
     ensures records { inner.new.records.now ≡ inner.old.records.now }
     ensures capacity { inner.new.policy.core.capacity ≡ inner.old.policy.core.capacity }
 {
-    match find_resident(inner, key.hash(), key) {
-        Some(place) => Some(use_value(inner, place)),
-        None => None,
-    }
+    let place = find_resident(inner, key.hash(), key)?;
+    Some(use_value(inner, place))
 }
 
 /// The value of a key that is resident in this place, which is a use.
@@ -40,8 +38,6 @@ pub fn get_at<K: HashedKey, V: Copy>(
     ensures records { inner.new.records.now ≡ inner.old.records.now }
     ensures capacity { inner.new.policy.core.capacity ≡ inner.old.policy.core.capacity }
 {
-    match find_at(inner, place, key) {
-        Some(here) => Some(use_value(inner, here)),
-        None => None,
-    }
+    let here = find_at(inner, place, key)?;
+    Some(use_value(inner, here))
 }

@@ -47,13 +47,9 @@ pub fn write_at<K: HashedKey, V: Copy>(
     ensures records { bare inner.new.records.now ≡ write_lays result place value (bare inner.old.records.now) }
     ensures capacity { inner.new.policy.core.capacity ≡ inner.old.policy.core.capacity }
 {
-    match find_at(inner, place, key) {
-        Some(here) => {
-            set_value(inner, here, value);
-            Ok(())
-        }
-        None => Err(Refusal::NotInPlace(place)),
-    }
+    let here = find_at(inner, place, key).ok_or(Refusal::NotInPlace(place))?;
+    set_value(inner, here, value);
+    Ok(())
 }
 
 /// Takes a resident key out, and says whether there was one; an absent key leaves Ghost.

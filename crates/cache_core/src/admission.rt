@@ -26,6 +26,6 @@ pub fn admit<K: HashedKey, V: Copy>(
             seat_key(inner, inserted.place, hash, key);
             Some(inserted)
         }
-        None => unreachable(),
+        None => unreachable!(),
     }
 }

@@ -1,6 +1,7 @@
 //! Why a call of the cache was refused.
 
 ghost use Rattle.std.specs.Prelude.{◌≡◌};
+ghost use Rattle.machine.specs.declared.refusal.Refusal.TheVariants.{NotLoaded};
 ghost use Rattle.machine.specs.Refusal.{refusal_number};
 
 use loaders::fault::Fault;
@@ -32,5 +33,14 @@ impl Refusal {
             Refusal::NotInPlace(_) => 4,
             Refusal::NotLoaded(_) => 5,
         }
+    }
+}
+
+/// The refusal of a fetch whose loader refused.
+impl From<Fault> for Refusal {
+    ghost from_gives = { λ fault why. why ≡ NotLoaded fault };
+
+    fn from(fault: Fault) -> Self {
+        Refusal::NotLoaded(fault)
     }
 }
