@@ -5,20 +5,7 @@ ghost use Rattle.cache_calls.specs.Parts.{Brings, Claims};
 use cache_core::{Inner, admit, set_value};
 use keys::kind::HashedKey;
 use machine::report::Report;
-use policy::plan::Inserted;
 use records::Record;
-
-/// The report of an insertion.
-pub(crate) fn report_of(inserted: Inserted) -> Report
-    ensures { result ≡ record { place = inserted.place; joined = inserted.joined; left = inserted.vacancy.left; chances = inserted.vacancy.chances } }
-{
-    Report {
-        place: inserted.place as usize,
-        joined: inserted.joined,
-        left: inserted.vacancy.left,
-        chances: inserted.vacancy.chances as usize,
-    }
-}
 
 /// Brings in a key that is not resident and has this hash, with a value.
 pub(crate) fn bring_in<K: HashedKey, V: Copy>(
@@ -34,7 +21,7 @@ pub(crate) fn bring_in<K: HashedKey, V: Copy>(
         unreachable!()
     };
     set_value(inner, inserted.place, value);
-    report_of(inserted)
+    inserted.into()
 }
 
 /// The value in a record, or another where there is no such record.
@@ -78,5 +65,5 @@ pub(crate) fn claim_place<K: HashedKey, V: Copy>(
     };
     let value = lying_in(inner, inserted.place, opened, given);
     set_value(inner, inserted.place, value);
-    (value, report_of(inserted))
+    (value, inserted.into())
 }

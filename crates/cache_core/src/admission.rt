@@ -20,12 +20,10 @@ pub fn admit<K: HashedKey, V: Copy>(
         return None;
     }
     let known = forget(inner, hash, &key);
-    match inner.policy.insert(known) {
-        Some(inserted) => {
-            depart(inner, inserted);
-            seat_key(inner, inserted.place, hash, key);
-            Some(inserted)
-        }
-        None => unreachable!(),
-    }
+    let Some(inserted) = inner.policy.insert(known) else {
+        unreachable!()
+    };
+    depart(inner, inserted);
+    seat_key(inner, inserted.place, hash, key);
+    Some(inserted)
 }

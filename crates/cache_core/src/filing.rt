@@ -40,15 +40,13 @@ pub fn unseat<K: HashedKey, V: Copy>(inner: &mut Inner<'_, K, V>, place: u16) ->
 }
 
 /// The former key of a node leaves Ghost's index, if Ghost forgot it.
-pub(crate) fn free_node<K: HashedKey, V: Copy>(inner: &mut Inner<'_, K, V>, noted: Noted) -> bool
+pub(crate) fn free_node<K: HashedKey, V: Copy>(inner: &mut Inner<'_, K, V>, noted: Noted)
     ensures tied { Frees K.Key.meaning K.HashedKey.hashed inner.old noted inner.new }
     ensures kept { OnlyRemembered inner.old inner.new }
 {
     if noted.forgot {
         let key = key_of(inner, Column::Remembered, noted.node);
-        unfile_key(&mut inner.remembered, key, noted.node)
-    } else {
-        false
+        unfile_key(&mut inner.remembered, key, noted.node);
     }
 }
 
@@ -57,21 +55,18 @@ pub(crate) fn note_key<K: HashedKey, V: Copy>(
     inner: &mut Inner<'_, K, V>,
     node: u16,
     key: Option<K>,
-) -> bool
+)
     ensures tied { LaysNoted K.Key.meaning K.HashedKey.hashed inner.old node key inner.new }
     ensures kept { SameButRemembered inner.old inner.new }
 {
-    match key {
-        Some(key) => {
-            let hash = key.hash();
-            let Inner {
-                records,
-                remembered,
-                ..
-            } = inner;
-            lay_key(remembered, records, Column::Remembered, node, hash, key).is_ok()
-        }
-        None => false,
+    if let Some(key) = key {
+        let hash = key.hash();
+        let Inner {
+            records,
+            remembered,
+            ..
+        } = inner;
+        let _ = lay_key(remembered, records, Column::Remembered, node, hash, key);
     }
 }
 
@@ -81,7 +76,7 @@ pub(crate) fn seat_key<K: HashedKey, V: Copy>(
     place: u16,
     hash: u64,
     key: K,
-) -> bool
+)
     ensures tied { LaysSeated K.Key.meaning K.HashedKey.hashed inner.old place hash key inner.new }
     ensures kept { SameButResidents inner.old inner.new }
 {
@@ -90,5 +85,5 @@ pub(crate) fn seat_key<K: HashedKey, V: Copy>(
         residents,
         ..
     } = inner;
-    lay_key(residents, records, Column::Resident, place, hash, key).is_ok()
+    let _ = lay_key(residents, records, Column::Resident, place, hash, key);
 }
