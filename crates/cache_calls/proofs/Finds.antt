@@ -1,5 +1,6 @@
 -- Which place holds a key: by the key, and by the place itself.
-use Rattle.std.proofs.Common.{◌≡◌, ℕ, ◌+◌, ◌<◌, ◌≤◌, Bool, true, false, cond, ◌&&◌, ◌||◌, eqb, ◌⊎◌, List, [], ◌∷◌, length, Some, None, Option, sym, refl, ap, ◌∙◌, inl, inr, arith, eq-eqb}
+use Rattle.std.proofs.Common.{◌≡◌, ℕ, ◌+◌, ◌<◌, ◌≤◌, Bool, true, false, cond, ◌&&◌, ◌||◌, eqb, ◌⊎◌, List, [], ◌∷◌, length, Some, None, Option, sym, refl, ap, ◌∙◌, subst, inl, inr, arith, eq-eqb}
+use Rattle.std.specs.Bool.{then_some}
 use Rattle.std.specs.Option.{option_map}
 use Rattle.std.proofs.lemmas.Bool.Decides.{eqb_tells}
 use Rattle.machine.specs.Replacement.{Resident, Parts}
@@ -16,6 +17,9 @@ use Rattle.index.proofs.Firsts.{counts_one, not_both, first_passes, first_only}
 use Rattle.records.specs.declared.column.Column.TheVariants.{Resident as of_resident}
 use Rattle.records.specs.declared.record.Record.{Record}
 use Rattle.records.specs.Columns.{word_at}
+use Rattle.policy.specs.View.{view}
+use Rattle.cache_core.specs.declared.inner.Inner.{Inner}
+use Rattle.cache_core.specs.Admitting.{Absent}
 use Rattle.cache_core.specs.View.{places, item_at, seen}
 use Rattle.cache_core.specs.Tied.{TiedWithin}
 use Rattle.cache_core.proofs.Looked.{look_first}
@@ -138,3 +142,12 @@ module _ {K V : Type 0} (mean : K → List ℕ) (hashed : List ℕ → ℕ) (rs 
 pub resides_still : {K V : Type 0} (mean : K → List ℕ) (w : List ℕ) (place : ℕ) (rs rs' : List (Record K V)) (ps ps' : List ℕ) → rs' ≡ rs → ps' ≡ ps → Some place ≡ first_by (bears (word_at mean of_resident rs) w) ps → Some place ≡ first_by (bears (word_at mean of_resident rs') w) ps'
 resides_still {K} {V} mean w place rs rs' ps ps' er ep found =
     found ∙ (ap (first_by (bears (word_at mean of_resident rs) w)) (sym ep) ∙ ap (λ (l : List (Record K V)). first_by (bears (word_at mean of_resident l) w) ps') (sym er))
+
+-- what holds of both outcomes of a test holds of the value that the test lets through
+pub by_test : {A : Type 0} (P : Option A → Type 0) (b : Bool) (a : A) (o : Option A) → o ≡ then_some b a → (b ≡ true → P (Some a)) → (b ≡ false → P None) → P o
+by_test P true a o is passes fails = subst P (sym is) (passes refl)
+by_test P false a o is passes fails = subst P (sym is) (fails refl)
+
+-- a key that no place bears is no resident's
+pub nobody : {K V : Type 0} (mean : K → List ℕ) (hashed : List ℕ → ℕ) (x : Inner K V) (w : List ℕ) → None ≡ first_by (bears (word_at mean of_resident x.records.now) w) (places (view x.policy.core)) → Absent mean hashed w x
+nobody mean hashed x w none = none_count (bears (word_at mean of_resident x.records.now) w) (places (view x.policy.core)) none

@@ -25,8 +25,10 @@ pub(crate) fn is_resident<K: HashedKey, V: Copy>(inner: &Inner<'_, K, V>, place:
 fn stands_in<K: HashedKey, V: Copy>(inner: &Inner<'_, K, V>, place: u16, key: &K) -> bool
     ensures { result ≡ bears (word_at K.Key.meaning of_resident inner.now.records.now) (K.Key.meaning key.now) place && resides place (view inner.now.policy.core) }
 {
-    key_in(inner.records, Column::Resident, place).is_some_and(|held| key.same(&held))
-        && is_resident(inner, place)
+    let Some(held) = key_in(inner.records, Column::Resident, place) else {
+        return false;
+    };
+    key.same(&held) && is_resident(inner, place)
 }
 
 /// The place given, if it is the resident's that has this key.

@@ -28,9 +28,10 @@ pub(crate) fn bring_in<K: HashedKey, V: Copy>(
 fn value_or<K: Copy, V: Copy>(records: &[Record<K, V>], place: u16, other: V) -> V
     ensures { result ≡ value_at other records.now place }
 {
-    records
-        .get(place as usize)
-        .map_or(other, |record| record.value)
+    match records.get(place as usize) {
+        Some(record) => record.value,
+        None => other,
+    }
 }
 
 /// What a claim finds in a newcomer's place: the given value if the place was never opened, else what lies there.

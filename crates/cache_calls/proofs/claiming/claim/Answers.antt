@@ -1,10 +1,6 @@
 use Rattle.std.proofs.Common.{◌≤◌, sym, arith}
-use Rattle.index.specs.Filed.{bears}
-use Rattle.policy.specs.View.{view}
-use Rattle.records.specs.declared.column.Column.TheVariants.{Resident}
-use Rattle.records.specs.Columns.{word_at}
-use Rattle.cache_core.specs.View.{places, state}
-use Rattle.cache_calls.proofs.Finds.{none_count}
+use Rattle.cache_core.specs.View.{state}
+use Rattle.cache_calls.proofs.Finds.{nobody}
 use Rattle.cache_calls.proofs.Steps.{claim_none}
 use Rattle.cache_calls.proofs.claiming.claim.Goals as goal
 
@@ -23,11 +19,11 @@ returns-in-None g c =
     let pos : 1 ≤ cap = (let z = c.if-capacity-eq0.false in let e = c.capacity.ensures in omega arith) in
     record {
       does = λ t.
-          (let e = b.1 t h (none_count (bears (word_at {K = g.row.K.Denot} {V = g.row.V.Denot} mean Resident rs) word) (places (view x.policy.core)) (f.first t h)) in (
+          (let e = b.1 t h (nobody {K = g.row.K.Denot} {V = g.row.V.Denot} mean g.K.HashedKey.hashed x word (f.first t h)) in (
             λ d.
                 claim_none cap pos (state {K = g.row.K.Denot} mean d x) (state {K = g.row.K.Denot} mean d y) word c.args.given r.0 r.1 (sym (f.look d t h)) (e.1 d) (e.0.next d) (e.0.told d),
             e.0.tied,
           ));
-      records = λ t. (b.1 t h (none_count (bears (word_at {K = g.row.K.Denot} {V = g.row.V.Denot} mean Resident rs) word) (places (view x.policy.core)) (f.first t h))).0.laid;
+      records = λ t. (b.1 t h (nobody {K = g.row.K.Denot} {V = g.row.V.Denot} mean g.K.HashedKey.hashed x word (f.first t h))).0.laid;
       capacity = b.0;
     }

@@ -23,7 +23,7 @@ returns g c =
     let y₁ = c.admit.new.inner in
     let v = c.lying_in-value.result in
     let w = c.set_value.ensures in
-    let told = c.report_of.ensures in
+    let told = c.into.ensures in
     let a = c.in-Some.ensures.within in (
       ap (λ (q : Policy). q.core.capacity) w.policy ∙ a.1.0,
       λ t h absent.

@@ -1,15 +1,12 @@
 use Rattle.std.proofs.Common.{◌≤◌, List, Option, sym, ap, ◌∙◌, arith}
 use Rattle.machine.specs.Machine.{Item, lays}
-use Rattle.index.specs.Filed.{bears}
 use Rattle.policy.specs.declared.policy.Policy.{Policy}
 use Rattle.policy.specs.View.{view}
-use Rattle.records.specs.declared.column.Column.TheVariants.{Resident}
 use Rattle.records.specs.declared.record.Record.{Record}
-use Rattle.records.specs.Columns.{word_at}
 use Rattle.cache_core.specs.View.{places, item_at, state, bare, revalued}
 use Rattle.cache_core.proofs.Bare.{bare_valued}
 use Rattle.cache_calls.specs.Calls.{given}
-use Rattle.cache_calls.proofs.Finds.{none_count, resides_still}
+use Rattle.cache_calls.proofs.Finds.{nobody, resides_still}
 use Rattle.cache_calls.proofs.Steps.{put_some, put_none}
 use Rattle.cache_calls.proofs.writing.put.Goals as goal
 
@@ -59,8 +56,8 @@ returns-in-None g c =
     let pos : 1 ≤ cap = (let z = c.if-capacity-eq0.false in let e = c.capacity.ensures in omega arith) in
     record {
       does = λ t.
-          (let e = b.1 t h (none_count (bears (word_at {K = g.row.K.Denot} {V = g.row.V.Denot} mean Resident rs) word) (places (view x.policy.core)) (f.first t h)) in
+          (let e = b.1 t h (nobody {K = g.row.K.Denot} {V = g.row.V.Denot} mean g.K.HashedKey.hashed x word (f.first t h)) in
           (λ d. put_none cap pos (state {K = g.row.K.Denot} mean d x) (state {K = g.row.K.Denot} mean d y) word c.args.value c.bring_in.result (sym (f.look d t h)) (e.next d) (e.told d), e.tied));
-      records = λ t d. (b.1 t h (none_count (bears (word_at {K = g.row.K.Denot} {V = g.row.V.Denot} mean Resident rs) word) (places (view x.policy.core)) (f.first t h))).laid;
+      records = λ t d. (b.1 t h (nobody {K = g.row.K.Denot} {V = g.row.V.Denot} mean g.K.HashedKey.hashed x word (f.first t h))).laid;
       capacity = b.0;
     }

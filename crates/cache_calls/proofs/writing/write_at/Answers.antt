@@ -1,29 +1,13 @@
-use Rattle.std.proofs.Common.{ℕ, Ok, sym, ap, ◌∙◌}
-use Rattle.machine.specs.Machine.{written}
-use Rattle.policy.specs.declared.policy.Policy.{Policy}
-use Rattle.cache_core.specs.View.{state, bare, revalued}
+use Rattle.std.proofs.Common.{ℕ, ◌≡◌, ap, ◌∙◌, rules}
+use Rattle.cache_core.specs.View.{bare, revalued}
 use Rattle.cache_core.proofs.Bare.{bare_valued}
 use Rattle.cache_calls.proofs.writing.write_at.Goals as goal
 
-pub returns-in-Some : goal.returns-in-Some
-returns-in-Some g c =
-    let mean = g.K.Key.meaning in
-    let word = mean c.args.key.now in
+pub returns-clause-records : goal.returns-clause-records
+returns-clause-records g c =
     let v = c.args.value in
-    let p = c.args.place in
-    let x = c.args.inner.now in
-    let f = c.in-Some.ensures in
-    let w = c.set_value.ensures in
-    record {
-      does = λ t. (
-        λ d.
-            ap (written (state {K = g.row.K.Denot} mean d x) p word v) (sym (f.look d t))
-            ∙ λ j. (sym (w.lays d word t (f.resides t)) j, Ok tt),
-        w.within t,
-      );
-      records =
-          ap (bare {K = g.row.K.Denot} {V = g.row.V.Denot}) w.records
-          ∙ (bare_valued {K = g.row.K.Denot} {V = g.row.V.Denot} x.records.now c.in-Some.here v
-          ∙ ap (λ (n : ℕ). revalued {K = g.row.K.Denot} {V = g.row.V.Denot} n v (bare x.records.now)) f.place);
-      capacity = ap (λ (q : Policy). q.core.capacity) w.policy;
-    }
+    let rs = c.args.inner.now.records.now in
+    let place : c.in_ok-here.here ≡ c.args.place = search rules in
+    ap (bare {K = g.row.K.Denot} {V = g.row.V.Denot}) c.set_value.ensures.records
+    ∙ (bare_valued {K = g.row.K.Denot} {V = g.row.V.Denot} rs c.in_ok-here.here v
+    ∙ ap (λ (n : ℕ). revalued {K = g.row.K.Denot} {V = g.row.V.Denot} n v (bare rs)) place)

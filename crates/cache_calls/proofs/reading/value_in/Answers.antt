@@ -1,5 +1,0 @@
-use Rattle.cache_calls.proofs.Lying.{value_read}
-use Rattle.cache_calls.proofs.reading.value_in.Goals as goal
-
-pub returns : goal.returns
-returns g c = λ d. value_read {K = g.row.K.Denot} {V = g.row.V.Denot} d c.args.records.now c.args.place c.index-records-place.result c.requires
