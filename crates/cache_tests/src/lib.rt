@@ -4,12 +4,12 @@
 #[cfg(test)]
 mod tests {
     use cache::{Cache, Record, measure, play};
-    use cache_calls::AskedKeepRule;
     use keys::named::NamedKey;
     use keys::numbered::NumberedKey;
     use loaders::fault::{Cause, Fault};
     use loaders::sheet::Sheet;
     use machine::call::{Answer, Call, Claimed, Fetched, Placed};
+    use machine::keep::KeepRule;
     use machine::refusal::Refusal;
     use machine::report::{Part, Report};
     use std::mem::size_of;
@@ -18,17 +18,21 @@ mod tests {
 
     const SHEET: &str = "key=1.9 east=70 north=-4 up=12\n";
 
+    const NINTH: Station = Station {
+        east: 70,
+        north: -4,
+        up: 12,
+    };
+
     #[derive(Clone, Copy)]
     struct Every {
         stays: bool,
     }
 
-    impl AskedKeepRule<NumberedKey, Station> for Every {
+    impl KeepRule<NumberedKey, Station> for Every {
         ghost keeps = { λ rule _ _. rule.stays };
 
-        ghost after = { λ rule _ _. rule };
-
-        fn keep(&mut self, key: &NumberedKey, value: &Station) -> bool {
+        fn keep(&self, _key: &NumberedKey, _value: &Station) -> bool {
             self.stays
         }
     }
@@ -67,36 +71,31 @@ mod tests {
         let mut records = [blank(); 2];
         let mut sheet = Sheet { text: SHEET };
         let mut cache = Cache::open(&mut records);
-        assert!(rt; cache.capacity() == 2);
-        let first = match cache.put(key(1), at(1)) {
-            Ok(Placed::New(report)) => report == told(0, Part::Small, None, 0),
-            _ => false,
-        };
-        assert!(rt; first);
-        let loaded = match cache.fetch(&mut sheet, key(9)) {
-            Ok(Fetched::New(value, report)) => {
-                value.north == -4 && report == told(1, Part::Main, None, 0)
-            }
-            _ => false,
-        };
-        assert!(rt; loaded);
-        let claimed = match cache.claim(key(1), at(5)) {
-            Ok(Claimed::Held((place, value))) => place == 0 && value == at(1),
-            _ => false,
-        };
-        assert!(rt; claimed);
-        assert!(rt; cache.write_at(0, &key(1), at(6)) == Ok(()));
-        assert!(rt; cache.write_at(1, &key(1), at(7)) == Err(Refusal::NotInPlace(1)));
-        assert!(rt; cache.peek(&key(1)) == Some(at(6)));
-        assert!(rt; cache.get(&key(2)) == None);
-        assert!(rt; cache.get_at(0, &key(1)) == Some(at(6)));
+        assert_eq!(rt; cache.capacity(), 2);
+        assert_eq!(rt;
+            cache.put(key(1), at(1)),
+            Ok(Placed::New(told(0, Part::Small, None, 0)))
+        );
+        assert_eq!(rt;
+            cache.fetch(&mut sheet, key(9)),
+            Ok(Fetched::New(NINTH, told(1, Part::Main, None, 0)))
+        );
+        assert_eq!(rt; cache.claim(key(1), at(5)), Ok(Claimed::Held((0, at(1)))));
+        assert_eq!(rt; cache.write_at(0, &key(1), at(6)), Ok(()));
+        assert_eq!(rt;
+            cache.write_at(1, &key(1), at(7)),
+            Err(Refusal::NotInPlace(1))
+        );
+        assert_eq!(rt; cache.peek(&key(1)), Some(at(6)));
+        assert_eq!(rt; cache.get(&key(2)), None);
+        assert_eq!(rt; cache.get_at(0, &key(1)), Some(at(6)));
         assert!(rt; cache.contains(&key(9)));
         cache.retain(&mut Every { stays: true });
         assert!(rt; cache.remove(&key(9)));
         cache.retain(&mut Every { stays: false });
         assert!(rt; !cache.contains(&key(1)));
         cache.clear();
-        assert!(rt; cache.peek(&key(1)) == None);
+        assert_eq!(rt; cache.peek(&key(1)), None);
     }
 
     #[test]
@@ -112,37 +111,27 @@ mod tests {
             Call::Fetch(key(2)),
         ];
         let mut answers = [Answer::Done; 6];
-        assert!(rt; play(&mut records, &mut sheet, &calls, &mut answers) == Ok(6));
-        let fourth = match answers[3] {
-            Answer::New(report) => report == told(0, Part::Small, Some(Part::Small), 0),
-            _ => false,
-        };
-        assert!(rt; fourth);
-        let fifth = match answers[4] {
-            Answer::New(report) => report == told(1, Part::Main, Some(Part::Main), 1),
-            _ => false,
-        };
-        assert!(rt; fifth);
-        let sixth = match answers[5] {
-            Answer::Refused(why) => {
-                why == Refusal::NotLoaded(Fault::new(Cause::NoRecord)) && why.number() == 5
-            }
-            _ => false,
-        };
-        assert!(rt; sixth);
+        assert_eq!(rt; play(&mut records, &mut sheet, &calls, &mut answers), Ok(6));
+        assert_eq!(rt;
+            answers[3],
+            Answer::New(told(0, Part::Small, Some(Part::Small), 0))
+        );
+        assert_eq!(rt;
+            answers[4],
+            Answer::New(told(1, Part::Main, Some(Part::Main), 1))
+        );
+        let why = Refusal::NotLoaded(Fault::new(Cause::NoRecord));
+        assert_eq!(rt; answers[5], Answer::Refused(why));
+        assert_eq!(rt; why.number(), 5);
         Ok(())
     }
 
     #[test]
     fn no_record(rt: HostRuntime) {
         let mut none: [Record<NumberedKey, Station>; 0] = [];
-        assert!(rt; measure(&none) == Err(Refusal::NoRecords));
+        assert_eq!(rt; measure(&none), Err(Refusal::NoRecords));
         let mut cache = Cache::open(&mut none);
-        let refused = match cache.put(key(1), at(1)) {
-            Err(why) => why == Refusal::NoCapacity,
-            Ok(_) => false,
-        };
-        assert!(rt; refused);
+        assert_eq!(rt; cache.put(key(1), at(1)), Err(Refusal::NoCapacity));
         assert!(rt; !cache.contains(&key(1)));
     }
 

@@ -4,7 +4,7 @@ use crate::refusal::Refusal;
 use crate::report::Report;
 
 /// A call that may stand in a run, with a key, a value and a keep rule.
-#[derive(Clone, Copy)]
+#[derive(Clone, Copy, PartialEq, Eq, Debug)]
 pub enum Call<K, V, R> {
     Contains(K),
     Peek(K),
@@ -19,7 +19,7 @@ pub enum Call<K, V, R> {
 }
 
 /// What a put did.
-#[derive(Clone, Copy)]
+#[derive(Clone, Copy, PartialEq, Eq, Debug)]
 pub enum Placed<V> {
     /// The key was resident with this value, which the put replaced.
     Old(V),
@@ -28,7 +28,7 @@ pub enum Placed<V> {
 }
 
 /// What a fetch found.
-#[derive(Clone, Copy)]
+#[derive(Clone, Copy, PartialEq, Eq, Debug)]
 pub enum Fetched<V> {
     /// The key was resident with this value.
     Held(V),
@@ -37,7 +37,7 @@ pub enum Fetched<V> {
 }
 
 /// What a claim found: the place and the value in it.
-#[derive(Clone, Copy)]
+#[derive(Clone, Copy, PartialEq, Eq, Debug)]
 pub enum Claimed<V> {
     /// The key was resident there.
     Held((usize, V)),
@@ -46,7 +46,7 @@ pub enum Claimed<V> {
 }
 
 /// The answer of any call of a run.
-#[derive(Clone, Copy)]
+#[derive(Clone, Copy, PartialEq, Eq, Debug)]
 pub enum Answer<V> {
     /// The key is resident, or was until this removal.
     Yes,

@@ -4,7 +4,7 @@ ghost use Rattle.std.specs.Prelude.{◌≡◌};
 ghost use Rattle.machine.specs.Limits.{limits_of};
 
 /// How many residents Small and Main and how many keys Ghost hold at most, and how long the window is.
-#[derive(Clone, Copy, PartialEq, Eq)]
+#[derive(Clone, Copy, PartialEq, Eq, Debug)]
 pub struct Limits {
     pub small: usize,
     pub main: usize,

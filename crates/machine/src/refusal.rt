@@ -7,7 +7,7 @@ ghost use Rattle.machine.specs.Refusal.{refusal_number};
 use loaders::fault::Fault;
 
 /// The refusals of the cache; each changes nothing.
-#[derive(Clone, Copy, PartialEq, Eq)]
+#[derive(Clone, Copy, PartialEq, Eq, Debug)]
 pub enum Refusal {
     /// A table without a record was measured.
     NoRecords,

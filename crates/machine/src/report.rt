@@ -1,7 +1,7 @@
 //! What an insertion tells of itself.
 
 /// A part of the cache that holds residents.
-#[derive(Clone, Copy, PartialEq, Eq)]
+#[derive(Clone, Copy, PartialEq, Eq, Debug)]
 pub enum Part {
     /// The queue of newcomers.
     Small,
@@ -10,7 +10,7 @@ pub enum Part {
 }
 
 /// What an insertion did: the newcomer's place and part, the part whose resident left, and the second chances given.
-#[derive(Clone, Copy, PartialEq, Eq)]
+#[derive(Clone, Copy, PartialEq, Eq, Debug)]
 pub struct Report {
     pub place: usize,
     pub joined: Part,
