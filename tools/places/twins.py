@@ -56,4 +56,5 @@ def main():
     print(f"{len(twins)} groups, {sum(map(len, twins))} functions")
 
 
-main()
+if __name__ == "__main__":
+    main()

@@ -11,7 +11,6 @@ ghost use Rattle.cache.specs.Steps.{Says, Steps};
 
 use crate::cache::Cache;
 use cache_calls::AskedKeepRule;
-use cache_core::clear as clear_in;
 use keys::kind::HashedKey;
 use loaders::loader::Loader;
 use machine::call::{Claimed, Fetched, Placed};
@@ -146,6 +145,6 @@ impl<'a, K: HashedKey, V: Copy> Cache<'a, K, V> {
         ensures records { self.new.inner.records.now ≡ self.old.inner.records.now }
         ensures capacity { self.new.inner.policy.core.capacity ≡ self.old.inner.policy.core.capacity }
     {
-        clear_in(&mut self.inner)
+        self.inner.clear()
     }
 }

@@ -6,7 +6,7 @@ ghost use Rattle.cache_calls.specs.Calls.{Does, claim_lays};
 
 use crate::inserting::claim_place;
 use crate::using::use_value;
-use cache_core::{Inner, find_resident};
+use cache_core::Inner;
 use keys::kind::HashedKey;
 use machine::call::Claimed;
 use machine::refusal::Refusal;
@@ -26,7 +26,7 @@ pub fn claim<K: HashedKey, V: Copy>(
         return Err(Refusal::NoCapacity);
     }
     let hash = key.hash();
-    match find_resident(inner, hash, &key) {
+    match inner.find_resident(hash, &key) {
         Some(place) => Ok(Claimed::Held((place as usize, use_value(inner, place)))),
         None => {
             let (value, report) = claim_place(inner, hash, key, given);

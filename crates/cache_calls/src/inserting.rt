@@ -2,7 +2,7 @@ ghost use Rattle.std.specs.Prelude.{◌≡◌, ◌≤◌, if◌then◌else◌, n
 ghost use Rattle.cache_core.specs.View.{value_at};
 ghost use Rattle.cache_calls.specs.Parts.{Brings, Claims};
 
-use cache_core::{Inner, admit, set_value};
+use cache_core::Inner;
 use keys::kind::HashedKey;
 use machine::report::Report;
 use records::Record;
@@ -17,10 +17,10 @@ pub(crate) fn bring_in<K: HashedKey, V: Copy>(
     requires { 1 ≤ inner.old.policy.core.capacity }
     ensures { Brings K.Key.meaning K.HashedKey.hashed inner.old hash key value result inner.new }
 {
-    let Some(inserted) = admit(inner, hash, key) else {
+    let Some(inserted) = inner.admit(hash, key) else {
         unreachable!()
     };
-    set_value(inner, inserted.place, value);
+    inner.set_value(inserted.place, value);
     inserted.into()
 }
 
@@ -61,10 +61,10 @@ pub(crate) fn claim_place<K: HashedKey, V: Copy>(
     ensures { Claims K.Key.meaning K.HashedKey.hashed inner.old hash key given result inner.new }
 {
     let opened = inner.policy.opened();
-    let Some(inserted) = admit(inner, hash, key) else {
+    let Some(inserted) = inner.admit(hash, key) else {
         unreachable!()
     };
     let value = lying_in(inner, inserted.place, opened, given);
-    set_value(inner, inserted.place, value);
+    inner.set_value(inserted.place, value);
     (value, inserted.into())
 }

@@ -6,7 +6,7 @@ ghost use Rattle.cache_calls.specs.Calls.{Does, fetch_lays, asks};
 
 use crate::inserting::bring_in;
 use crate::using::use_value;
-use cache_core::{Inner, find_resident};
+use cache_core::Inner;
 use keys::kind::HashedKey;
 use loaders::loader::Loader;
 use machine::call::Fetched;
@@ -29,7 +29,7 @@ pub fn fetch<K: HashedKey, V: Copy, L: Loader<K, V>>(
         return Err(Refusal::NoCapacity);
     }
     let hash = key.hash();
-    if let Some(place) = find_resident(inner, hash, &key) {
+    if let Some(place) = inner.find_resident(hash, &key) {
         return Ok(Fetched::Held(use_value(inner, place)));
     }
     let value = loader.ask(&key)?;

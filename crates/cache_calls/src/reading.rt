@@ -3,7 +3,7 @@ ghost use Rattle.machine.specs.Machine.{contains as resident, peek as lookup};
 ghost use Rattle.cache_core.specs.View.{value_at};
 ghost use Rattle.cache_calls.specs.Calls.{Tells};
 
-use cache_core::{Inner, find_resident};
+use cache_core::Inner;
 use keys::kind::HashedKey;
 
 /// The value in a place.
@@ -18,13 +18,13 @@ pub(crate) fn value_of<K: HashedKey, V: Copy>(inner: &Inner<'_, K, V>, place: u1
 pub fn contains<K: HashedKey, V: Copy>(inner: &Inner<'_, K, V>, key: &K) -> bool
     ensures { Tells K.Key.meaning K.HashedKey.hashed (λ s. resident s (K.Key.meaning key.now)) inner.now result }
 {
-    find_resident(inner, key.hash(), key).is_some()
+    inner.find_resident(key.hash(), key).is_some()
 }
 
 /// The value of a resident key, without a use.
 pub fn peek<K: HashedKey, V: Copy>(inner: &Inner<'_, K, V>, key: &K) -> Option<V>
     ensures { Tells K.Key.meaning K.HashedKey.hashed (λ s. lookup s (K.Key.meaning key.now)) inner.now result }
 {
-    let place = find_resident(inner, key.hash(), key)?;
+    let place = inner.find_resident(key.hash(), key)?;
     Some(value_of(inner, place))
 }

@@ -8,7 +8,7 @@ ghost use Rattle.cache_calls.specs.Retain.{retained, asked_each, refused, asked_
 
 use crate::finding::is_resident;
 use crate::rule::AskedKeepRule;
-use cache_core::{Inner, unseat};
+use cache_core::Inner;
 use keys::kind::HashedKey;
 use records::Record;
 
@@ -53,7 +53,7 @@ fn sift<K: HashedKey, V: Copy, R: AskedKeepRule<K, V>>(
 {
     if is_dropped(inner, rule, place) {
         flags[place as usize] = true;
-        unseat(inner, place);
+        inner.unseat(place);
     }
 }
 

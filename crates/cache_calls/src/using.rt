@@ -5,7 +5,7 @@ ghost use Rattle.cache_calls.specs.Parts.{Used};
 
 use crate::finding::find_at;
 use crate::reading::value_of;
-use cache_core::{Inner, find_resident, touch};
+use cache_core::Inner;
 use keys::kind::HashedKey;
 
 /// A use of the resident of a place, and its value.
@@ -14,7 +14,7 @@ pub(crate) fn use_value<K: HashedKey, V: Copy>(inner: &mut Inner<'_, K, V>, plac
     ensures { Used K.Key.meaning K.HashedKey.hashed inner.old place result inner.new }
 {
     let value = value_of(inner, place);
-    touch(inner, place);
+    inner.touch(place);
     value
 }
 
@@ -24,7 +24,7 @@ pub fn get<K: HashedKey, V: Copy>(inner: &mut Inner<'_, K, V>, key: &K) -> Optio
     ensures records { inner.new.records.now ≡ inner.old.records.now }
     ensures capacity { inner.new.policy.core.capacity ≡ inner.old.policy.core.capacity }
 {
-    let place = find_resident(inner, key.hash(), key)?;
+    let place = inner.find_resident(key.hash(), key)?;
     Some(use_value(inner, place))
 }
 

@@ -7,7 +7,7 @@ ghost use Rattle.cache_calls.specs.Calls.{Does, put_lays, write_lays};
 use crate::finding::find_at;
 use crate::inserting::bring_in;
 use crate::using::use_value;
-use cache_core::{Inner, find_resident, forget, release, set_value};
+use cache_core::Inner;
 use keys::kind::HashedKey;
 use machine::call::Placed;
 use machine::refusal::Refusal;
@@ -26,10 +26,10 @@ pub fn put<K: HashedKey, V: Copy>(
         return Err(Refusal::NoCapacity);
     }
     let hash = key.hash();
-    match find_resident(inner, hash, &key) {
+    match inner.find_resident(hash, &key) {
         Some(place) => {
             let old = use_value(inner, place);
-            set_value(inner, place, value);
+            inner.set_value(place, value);
             Ok(Placed::Old(old))
         }
         None => Ok(Placed::New(bring_in(inner, hash, key, value))),
@@ -48,7 +48,7 @@ pub fn write_at<K: HashedKey, V: Copy>(
     ensures capacity { inner.new.policy.core.capacity ≡ inner.old.policy.core.capacity }
 {
     let here = find_at(inner, place, key).ok_or(Refusal::NotInPlace(place))?;
-    set_value(inner, here, value);
+    inner.set_value(here, value);
     Ok(())
 }
 
@@ -59,10 +59,10 @@ pub fn remove<K: HashedKey, V: Copy>(inner: &mut Inner<'_, K, V>, key: &K) -> bo
     ensures capacity { inner.new.policy.core.capacity ≡ inner.old.policy.core.capacity }
 {
     let hash = key.hash();
-    match find_resident(inner, hash, key) {
-        Some(place) => release(inner, hash, place),
+    match inner.find_resident(hash, key) {
+        Some(place) => inner.release(hash, place),
         None => {
-            forget(inner, hash, key);
+            inner.forget(hash, key);
             false
         }
     }

@@ -9,15 +9,13 @@ use keys::kind::HashedKey;
 use policy::Noted;
 use records::{Column, key_in, lay_key};
 
-/// The key of a column in a place.
-pub(crate) fn key_of<K: HashedKey, V: Copy>(
-    inner: &Inner<'_, K, V>,
-    column: Column,
-    place: u16,
-) -> Option<K>
-    ensures { result ≡ key_at_lem column inner.now.records.now place }
-{
-    key_in(inner.records, column, place)
+impl<K: HashedKey, V: Copy> Inner<'_, K, V> {
+    /// The key of a column in a place.
+    pub(crate) fn key_of(&self, column: Column, place: u16) -> Option<K>
+        ensures { result ≡ key_at_lem column self.now.records.now place }
+    {
+        key_in(self.records, column, place)
+    }
 }
 
 /// Takes the entry of a place, filed under the hash of the key in it, out of an index.
@@ -30,60 +28,53 @@ fn unfile_key<K: HashedKey>(index: &mut KeyIndex, key: Option<K>, place: u16) ->
     }
 }
 
-/// The key of a place leaves the residents' index.
-pub fn unseat<K: HashedKey, V: Copy>(inner: &mut Inner<'_, K, V>, place: u16) -> bool
-    ensures tied { Unseats K.Key.meaning K.HashedKey.hashed inner.old place inner.new }
-    ensures kept { OnlyResidents inner.old inner.new }
-{
-    let key = key_of(inner, Column::Resident, place);
-    unfile_key(&mut inner.residents, key, place)
-}
-
-/// The former key of a node leaves Ghost's index, if Ghost forgot it.
-pub(crate) fn free_node<K: HashedKey, V: Copy>(inner: &mut Inner<'_, K, V>, noted: Noted)
-    ensures tied { Frees K.Key.meaning K.HashedKey.hashed inner.old noted inner.new }
-    ensures kept { OnlyRemembered inner.old inner.new }
-{
-    if noted.forgot {
-        let key = key_of(inner, Column::Remembered, noted.node);
-        unfile_key(&mut inner.remembered, key, noted.node);
+impl<K: HashedKey, V: Copy> Inner<'_, K, V> {
+    /// The key of a place leaves the residents' index.
+    pub fn unseat(&mut self, place: u16) -> bool
+        ensures tied { Unseats K.Key.meaning K.HashedKey.hashed self.old place self.new }
+        ensures kept { OnlyResidents self.old self.new }
+    {
+        let key = self.key_of(Column::Resident, place);
+        unfile_key(&mut self.residents, key, place)
     }
-}
 
-/// Lays a key at a node of Ghost, and files it.
-pub(crate) fn note_key<K: HashedKey, V: Copy>(
-    inner: &mut Inner<'_, K, V>,
-    node: u16,
-    key: Option<K>,
-)
-    ensures tied { LaysNoted K.Key.meaning K.HashedKey.hashed inner.old node key inner.new }
-    ensures kept { SameButRemembered inner.old inner.new }
-{
-    if let Some(key) = key {
-        let hash = key.hash();
+    /// The former key of a node leaves Ghost's index, if Ghost forgot it.
+    pub(crate) fn free_node(&mut self, noted: Noted)
+        ensures tied { Frees K.Key.meaning K.HashedKey.hashed self.old noted self.new }
+        ensures kept { OnlyRemembered self.old self.new }
+    {
+        if noted.forgot {
+            let key = self.key_of(Column::Remembered, noted.node);
+            unfile_key(&mut self.remembered, key, noted.node);
+        }
+    }
+
+    /// Lays a key at a node of Ghost, and files it.
+    pub(crate) fn note_key(&mut self, node: u16, key: Option<K>)
+        ensures tied { LaysNoted K.Key.meaning K.HashedKey.hashed self.old node key self.new }
+        ensures kept { SameButRemembered self.old self.new }
+    {
+        if let Some(key) = key {
+            let hash = key.hash();
+            let Inner {
+                records,
+                remembered,
+                ..
+            } = self;
+            let _ = lay_key(remembered, records, Column::Remembered, node, hash, key);
+        }
+    }
+
+    /// Lays a newcomer's key, which has this hash, in its place, and files it.
+    pub(crate) fn seat_key(&mut self, place: u16, hash: u64, key: K)
+        ensures tied { LaysSeated K.Key.meaning K.HashedKey.hashed self.old place hash key self.new }
+        ensures kept { SameButResidents self.old self.new }
+    {
         let Inner {
             records,
-            remembered,
+            residents,
             ..
-        } = inner;
-        let _ = lay_key(remembered, records, Column::Remembered, node, hash, key);
+        } = self;
+        let _ = lay_key(residents, records, Column::Resident, place, hash, key);
     }
-}
-
-/// Lays a newcomer's key, which has this hash, in its place, and files it.
-pub(crate) fn seat_key<K: HashedKey, V: Copy>(
-    inner: &mut Inner<'_, K, V>,
-    place: u16,
-    hash: u64,
-    key: K,
-)
-    ensures tied { LaysSeated K.Key.meaning K.HashedKey.hashed inner.old place hash key inner.new }
-    ensures kept { SameButResidents inner.old inner.new }
-{
-    let Inner {
-        records,
-        residents,
-        ..
-    } = inner;
-    let _ = lay_key(residents, records, Column::Resident, place, hash, key);
 }

@@ -11,11 +11,4 @@ mod lookup;
 mod residents;
 mod values;
 
-pub use admission::admit;
-pub use clearing::clear;
-pub use filing::unseat;
-pub use forgetting::forget;
 pub use inner::Inner;
-pub use lookup::{find_remembered, find_resident};
-pub use residents::{release, touch};
-pub use values::set_value;

@@ -17,13 +17,15 @@ fn lay_value<K: Copy, V: Copy>(records: &mut [Record<K, V>], place: u16, value: 
     records[place as usize].value = value;
 }
 
-/// The resident of a place has this value from now on.
-pub fn set_value<K: HashedKey, V: Copy>(inner: &mut Inner<'_, K, V>, place: u16, value: V)
-    ensures policy { inner.new.policy ≡ inner.old.policy }
-    ensures records { inner.new.records.now ≡ valued inner.old.records.now place value }
-    ensures lays { (d : V) (word : List ℕ) → Within K.Key.meaning K.HashedKey.hashed inner.old → Resides K.Key.meaning K.HashedKey.hashed word place inner.old → state K.Key.meaning d inner.new ≡ lays word value (state K.Key.meaning d inner.old) }
-    ensures tied { TiedInner K.Key.meaning K.HashedKey.hashed inner.old → TiedInner K.Key.meaning K.HashedKey.hashed inner.new }
-    ensures within { Within K.Key.meaning K.HashedKey.hashed inner.old → Within K.Key.meaning K.HashedKey.hashed inner.new }
-{
-    lay_value(inner.records, place, value);
+impl<K: HashedKey, V: Copy> Inner<'_, K, V> {
+    /// The resident of a place has this value from now on.
+    pub fn set_value(&mut self, place: u16, value: V)
+        ensures policy { self.new.policy ≡ self.old.policy }
+        ensures records { self.new.records.now ≡ valued self.old.records.now place value }
+        ensures lays { (d : V) (word : List ℕ) → Within K.Key.meaning K.HashedKey.hashed self.old → Resides K.Key.meaning K.HashedKey.hashed word place self.old → state K.Key.meaning d self.new ≡ lays word value (state K.Key.meaning d self.old) }
+        ensures tied { TiedInner K.Key.meaning K.HashedKey.hashed self.old → TiedInner K.Key.meaning K.HashedKey.hashed self.new }
+        ensures within { Within K.Key.meaning K.HashedKey.hashed self.old → Within K.Key.meaning K.HashedKey.hashed self.new }
+    {
+        lay_value(self.records, place, value);
+    }
 }

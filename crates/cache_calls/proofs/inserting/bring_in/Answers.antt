@@ -24,7 +24,7 @@ returns g c =
             tied = w.within e.0.within;
             laid =
                 ap (bare {K = g.row.K.Denot} {V = g.row.V.Denot}) w.records
-                ∙ (bare_valued {K = g.row.K.Denot} {V = g.row.V.Denot} c.admit.new.inner.records.now place v
+                ∙ (bare_valued {K = g.row.K.Denot} {V = g.row.V.Denot} c.admit.new.self.records.now place v
                 ∙ (ap (revalued {K = g.row.K.Denot} {V = g.row.V.Denot} place v) e.1
                 ∙ ap (λ (n : ℕ). newcomer {K = g.row.K.Denot} {V = g.row.V.Denot} n key v (bare x.records.now)) (sym (ap (λ (r : Report). r.place) told))));
           }),

@@ -2,11 +2,11 @@ use Rattle.std.proofs.Common.{◌≡◌, Some, sym, refl, ◌∙◌, subst}
 use Rattle.records.specs.declared.column.Column.TheVariants.{Remembered}
 use Rattle.cache_core.specs.Filing.{Laid}
 use Rattle.cache_core.proofs.Filings.{laid}
-use Rattle.cache_core.proofs.filing.note_key.Goals as goal
+use Rattle.cache_core.proofs.inner.Inner.note_key.Goals as goal
 
 pub returns-in-Some : goal.returns-in-Some
 returns-in-Some g c =
-    let x = c.args.inner.now in
+    let x = c.args.self.now in
     let key = c.in-Some.key in
     record {
       tied = λ k is.

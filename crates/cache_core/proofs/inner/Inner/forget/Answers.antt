@@ -13,13 +13,13 @@ use Rattle.cache_core.proofs.Exact.{loosened, exact}
 use Rattle.cache_core.proofs.Standing.{orderly, node_within}
 use Rattle.cache_core.proofs.Ghosts.{others}
 use Rattle.cache_core.proofs.Forgot.{holds_node_lem, forgets_none, node_there, node_word, node_apart, forgets_node, forgets_tied}
-use Rattle.cache_core.proofs.forgetting.forget.Goals as goal
+use Rattle.cache_core.proofs.inner.Inner.forget.Goals as goal
 
 pub returns-in-Some : goal.returns-in-Some
 returns-in-Some g c =
     let mean = g.K.Key.meaning in
     let hashed = g.K.HashedKey.hashed in
-    let x = c.args.inner.now in
+    let x = c.args.self.now in
     let rs = x.records.now in
     let s = view x.policy.core in
     let word = mean c.args.key.now in
@@ -59,7 +59,7 @@ returns-in-Some g c =
 pub returns-in-None : goal.returns-in-None
 returns-in-None g c =
     let mean = g.K.Key.meaning in
-    let x = c.args.inner.now in
+    let x = c.args.self.now in
     let rs = x.records.now in
     let s = view x.policy.core in
     let word = mean c.args.key.now in

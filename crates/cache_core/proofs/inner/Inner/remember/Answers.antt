@@ -1,12 +1,12 @@
 use Rattle.std.proofs.Common.{◌∙◌}
 use Rattle.cache_core.proofs.Filings.{remembered_after}
-use Rattle.cache_core.proofs.departing.remember.Goals as goal
+use Rattle.cache_core.proofs.inner.Inner.remember.Goals as goal
 
 pub returns : goal.returns
 returns g c =
-    let x = c.args.inner.now in
-    let x' = c.free_node.new.inner in
-    let y = c.note_key.new.inner in
+    let x = c.args.self.now in
+    let x' = c.free_node.new.self in
+    let y = c.note_key.new.self in
     let freed = c.free_node.ensures.kept in
     let laid = c.note_key.ensures.kept in
     record {

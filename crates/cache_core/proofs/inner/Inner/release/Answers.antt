@@ -12,13 +12,13 @@ use Rattle.cache_core.proofs.Exact.{loosened, exact}
 use Rattle.cache_core.proofs.Standing.{orderly, place_within}
 use Rattle.cache_core.proofs.Ghosts.{others}
 use Rattle.cache_core.proofs.Residing.{resides_there, place_there, place_word, place_apart, drops_place, drops_tied}
-use Rattle.cache_core.proofs.residents.release.Goals as goal
+use Rattle.cache_core.proofs.inner.Inner.release.Goals as goal
 
 pub returns : goal.returns
 returns g c =
     let mean = g.K.Key.meaning in
     let hashed = g.K.HashedKey.hashed in
-    let x = c.args.inner.now in
+    let x = c.args.self.now in
     let rs = x.records.now in
     let s = view x.policy.core in
     let cap = x.policy.core.capacity in

@@ -5,12 +5,12 @@ use Rattle.records.specs.declared.column.Column.TheVariants.{Resident}
 use Rattle.cache_core.specs.View.{places, item_at}
 use Rattle.cache_core.proofs.Standing.{place_within}
 use Rattle.cache_core.proofs.Looked.{found_within, look_first}
-use Rattle.cache_core.proofs.lookup.find_resident.Goals as goal
+use Rattle.cache_core.proofs.inner.Inner.find_resident.Goals as goal
 
 pub returns : goal.returns
 returns g c =
     let mean = g.K.Key.meaning in
-    let x = c.args.inner.now in
+    let x = c.args.self.now in
     let rs = x.records.now in
     let s = view x.policy.core in
     let word = mean c.args.key.now in

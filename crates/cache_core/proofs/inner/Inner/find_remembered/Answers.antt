@@ -3,12 +3,12 @@ use Rattle.policy.specs.View.{view}
 use Rattle.records.specs.declared.column.Column.TheVariants.{Remembered}
 use Rattle.cache_core.proofs.Standing.{node_within}
 use Rattle.cache_core.proofs.Looked.{found_within, has_first}
-use Rattle.cache_core.proofs.lookup.find_remembered.Goals as goal
+use Rattle.cache_core.proofs.inner.Inner.find_remembered.Goals as goal
 
 pub returns : goal.returns
 returns g c =
     let mean = g.K.Key.meaning in
-    let x = c.args.inner.now in
+    let x = c.args.self.now in
     let rs = x.records.now in
     let nodes = (view x.policy.core).remembered in
     let word = mean c.args.key.now in

@@ -6,13 +6,13 @@ use Rattle.cache_core.specs.Tied.{TiedWithin}
 use Rattle.cache_core.proofs.Exact.{loosened, exact}
 use Rattle.cache_core.proofs.Standing.{orderly, place_within}
 use Rattle.cache_core.proofs.Valued.{valued_length, valued_tied, lays_place}
-use Rattle.cache_core.proofs.values.set_value.Goals as goal
+use Rattle.cache_core.proofs.inner.Inner.set_value.Goals as goal
 
 pub returns : goal.returns
 returns g c =
     let mean = g.K.Key.meaning in
     let hashed = g.K.HashedKey.hashed in
-    let x = c.args.inner.now in
+    let x = c.args.self.now in
     let rs = x.records.now in
     let s = view x.policy.core in
     let cap = x.policy.core.capacity in

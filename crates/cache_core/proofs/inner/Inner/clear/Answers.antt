@@ -4,13 +4,13 @@ use Rattle.cache_core.specs.View.{seen}
 use Rattle.cache_core.specs.Tied.{TiedWithin}
 use Rattle.cache_core.proofs.Exact.{loosened, exact}
 use Rattle.cache_core.proofs.Cleared.{nothing_tied}
-use Rattle.cache_core.proofs.clearing.clear.Goals as goal
+use Rattle.cache_core.proofs.inner.Inner.clear.Goals as goal
 
 pub returns : goal.returns
 returns g c =
     let mean = g.K.Key.meaning in
     let hashed = g.K.HashedKey.hashed in
-    let x = c.args.inner.now in
+    let x = c.args.self.now in
     let rs = x.records.now in
     let q = c.clear.new.self in
     let within : TiedWithin {K = g.row.K.Denot} {V = g.row.V.Denot} mean hashed x.policy.core.capacity rs (view x.policy.core) x.residents x.remembered → TiedWithin {K = g.row.K.Denot} {V = g.row.V.Denot} mean hashed q.core.capacity rs (view q.core) c.clear-2.new.self c.clear-3.new.self =

@@ -6,17 +6,17 @@ use Rattle.cache_core.specs.Admitting.{Absent, AdmittedWithin, LaidIn}
 use Rattle.cache_core.proofs.Bare.{long_kept}
 use Rattle.cache_core.proofs.Exact.{loosened, exact}
 use Rattle.cache_core.proofs.Admits.{departs_policy, laid_in, admits}
-use Rattle.cache_core.proofs.admission.admit.Goals as goal
+use Rattle.cache_core.proofs.inner.Inner.admit.Goals as goal
 
 pub returns : goal.returns
 returns g c =
     let mean = g.K.Key.meaning in
     let hashed = g.K.HashedKey.hashed in
-    let x = c.args.inner.now in
-    let x₁ = c.forget-known.new.inner in
+    let x = c.args.self.now in
+    let x₁ = c.forget-known.new.self in
     let x₂ : Inner g.row.K.Denot g.row.V.Denot = record { records = x₁.records; policy = c.insert.new.self; residents = x₁.residents; remembered = x₁.remembered } in
-    let x₃ = c.depart.new.inner in
-    let y = c.seat_key.new.inner in
+    let x₃ = c.depart.new.self in
+    let y = c.seat_key.new.self in
     let r = c.in-Some.inserted in
     let f = c.forget-known.ensures in
     let done = c.in-Some.ensures in
