@@ -1,12 +1,10 @@
 -- Which place holds a key: by the key, and by the place itself.
-use Rattle.std.proofs.Common.{◌≡◌, ℕ, ◌+◌, ◌<◌, ◌≤◌, Bool, true, false, cond, ◌&&◌, ◌||◌, eqb, ◌⊎◌, List, [], ◌∷◌, length, Some, None, Option, sym, refl, ap, ◌∙◌, subst, inl, inr, arith, eq-eqb}
+use Rattle.std.proofs.Common.{◌≡◌, ℕ, ◌+◌, ◌<◌, ◌≤◌, Bool, true, false, cond, ◌&&◌, ◌||◌, eqb, List, [], ◌∷◌, length, Some, None, Option, sym, refl, ap, ◌∙◌, subst, inl, inr, arith, eq-eqb}
 use Rattle.std.specs.Bool.{then_some}
 use Rattle.std.specs.Option.{option_map}
 use Rattle.std.proofs.lemmas.Bool.Decides.{eqb_tells}
 use Rattle.machine.specs.Replacement.{Resident, Parts}
 use Rattle.machine.specs.Machine.{Item, in_place, look}
-use Rattle.queues.specs.declared.location.Location.{Location}
-use Rattle.queues.specs.declared.location.Location.TheVariants.{Free, Small, Main}
 use Rattle.queues.specs.Held as queues
 use Rattle.handles.specs.Seek.{first_by}
 use Rattle.handle_laws.specs.Runs.{how_many}
@@ -28,28 +26,6 @@ use Rattle.cache_core.proofs.Leaving.{items, items_append}
 use Rattle.cache_core.proofs.Residing.{resides_there}
 
 -- ## Where a place is
-
-free_by : (a b : Bool) → Free ≡ cond a Small (cond b Main Free) → false ≡ a || b
-free_by true b e = absurd (let z : ◌≡◌ {A = ℕ} 0 1 = cc in omega arith)
-free_by false true e = absurd (let z : ◌≡◌ {A = ℕ} 0 1 = cc in omega arith)
-free_by false false e = refl
-
-pub free_nobody : (p : ℕ) (s : Parts ℕ ℕ ℕ) → Free ≡ queues.locate p s → false ≡ queues.resides p s
-free_nobody p s e = free_by (queues.has p s.small) (queues.has p s.main) e
-
-small_by : (a b : Bool) → Small ≡ cond a Small (cond b Main Free) → true ≡ a || b
-small_by true b e = refl
-small_by false true e = absurd (let z : ◌≡◌ {A = ℕ} 0 1 = cc in omega arith)
-small_by false false e = absurd (let z : ◌≡◌ {A = ℕ} 0 1 = cc in omega arith)
-
-main_by : (a b : Bool) → Main ≡ cond a Small (cond b Main Free) → true ≡ a || b
-main_by true b e = refl
-main_by false true e = refl
-main_by false false e = absurd (let z : ◌≡◌ {A = ℕ} 0 1 = cc in omega arith)
-
-pub held_somebody : (p : ℕ) (s : Parts ℕ ℕ ℕ) (l : Location) → (l ≡ Small) ⊎ (l ≡ Main) → l ≡ queues.locate p s → true ≡ queues.resides p s
-held_somebody p s l (inl e) at = small_by (queues.has p s.small) (queues.has p s.main) (sym e ∙ at)
-held_somebody p s l (inr e) at = main_by (queues.has p s.small) (queues.has p s.main) (sym e ∙ at)
 
 has_count : (p : ℕ) (xs : List (Resident ℕ)) → queues.has p xs ≡ true → 0 < occurs p (items xs)
 has_count p [] e = absurd (not_both false e refl)
@@ -137,11 +113,6 @@ module _ {K V : Type 0} (mean : K → List ℕ) (hashed : List ℕ → ℕ) (rs 
       cut : (b : Bool) → queues.resides p s ≡ b → bears lying w p && b ≡ false
       cut true e = absurd (let h = resides_count p s e in let l = o.within p (omega arith) in let u = o.opened in omega arith)
       cut false e = falsely (bears lying w p)
-
--- a key stays found where no record and no place changes
-pub resides_still : {K V : Type 0} (mean : K → List ℕ) (w : List ℕ) (place : ℕ) (rs rs' : List (Record K V)) (ps ps' : List ℕ) → rs' ≡ rs → ps' ≡ ps → Some place ≡ first_by (bears (word_at mean of_resident rs) w) ps → Some place ≡ first_by (bears (word_at mean of_resident rs') w) ps'
-resides_still {K} {V} mean w place rs rs' ps ps' er ep found =
-    found ∙ (ap (first_by (bears (word_at mean of_resident rs) w)) (sym ep) ∙ ap (λ (l : List (Record K V)). first_by (bears (word_at mean of_resident l) w) ps') (sym er))
 
 -- what holds of both outcomes of a test holds of the value that the test lets through
 pub by_test : {A : Type 0} (P : Option A → Type 0) (b : Bool) (a : A) (o : Option A) → o ≡ then_some b a → (b ≡ true → P (Some a)) → (b ≡ false → P None) → P o
