@@ -1,15 +1,12 @@
-use Rattle.std.proofs.Common.{◌+◌, map, drop, sym, ap, ◌∙◌, arith}
-use Rattle.keys.specs.Hash.{hash_from, mixed}
+use Rattle.std.proofs.Common.{sym, ◌∙◌, rules}
+use Rattle.std.proofs.lemmas.Iterator.{YieldsList-from_slice}
+use Rattle.std.proofs.lemmas.Iterator.Consumers.{fold_from_yields_List}
+use Rattle.std.proofs.lemmas.List.Folds.{fold-map}
+use Rattle.keys.specs.Hash.{mixed}
 use Rattle.keys.specs.Named.{folded}
-use Rattle.keys.proofs.Naming.{hash_more, hash_all}
 use Rattle.keys.proofs.named.mix_name.Goals as goal
-
-pub loop-byte-preserved : goal.loop-byte-preserved
-loop-byte-preserved c =
-    let bs = c.args.spelling.now in
-    let i = c.loop-byte.byte-index in
-    ap (λ h. hash_from h (map folded (drop (i + 1) bs))) (c.mix-so_far.ensures ∙ ap (mixed c.loop-byte.so_far) c.fold.ensures) ∙ sym (hash_more c.loop-byte.so_far bs i (omega arith)) ∙ c.loop-byte.invariant
 
 pub returns : goal.returns
 returns c =
-    sym (hash_all c.loop-byte.so_far c.args.spelling.now c.loop-byte.byte-index (omega arith)) ∙ c.loop-byte.invariant
+    let bs = c.args.spelling.now in
+    fold_from_yields_List _ (λ h x. mixed h (folded x)) _ c.fold.result c.fold.ensures.ran (YieldsList-from_slice bs cc) (λ a x b q k. search rules) ∙ sym (fold-map mixed folded _ bs)
