@@ -1,7 +1,7 @@
 -- What a list of entries gives, one entry after another.
-use Rattle.std.proofs.Common.{◌≡◌, ℕ, ◌+◌, ◌<◌, Bool, cond, List, map, length, get_or, drop, Some, None, Ok, Err, Decides, Option, sym, refl, ap, ◌∙◌, arith}
+use Rattle.std.proofs.Common.{◌≡◌, ℕ, ◌+◌, ◌<◌, Bool, cond, List, map, length, get_or, drop, Some, None, Ok, Err, Decides, Option, sym, refl, ap, ◌∙◌}
 use Rattle.std.proofs.lemmas.Slice.Eq.{bytes_eq-Decides}
-use Rattle.std.proofs.lemmas.List.{at_drop_more, at_drop_all, nil_from_length}
+use Rattle.std.proofs.lemmas.List.{at_drop_more, nil_from_length}
 use Rattle.std.proofs.lemmas.Bool.Decides.{same_from_decides}
 use Rattle.std.specs.Str.{bytes_eq}
 use Rattle.survey.specs.Entry.{line_text}
@@ -21,9 +21,6 @@ module _ {K V : Type 0} (meaning : K → List ℕ) (rs : List (Entry K V)) (word
   pub roll_more : (n i : ℕ) (r : Entry K V) (alike : Bool) → i < length rs → r ≡ get_or rs i r → Decides alike (meaning r.key ≡ word) → look n (map (whole meaning) (drop i rs)) word ≡ cond alike (Ok r.value) (look (n + 1) (map (whole meaning) (drop (i + 1) rs)) word)
   roll_more n i r alike low is told =
       at_drop_more (λ es. look n (map (whole meaning) es) word) rs i r low ∙ ap (λ (e : Entry K V). cond (bytes_eq (meaning e.key) word) (Ok e.value) (look (n + 1) (map (whole meaning) (drop (i + 1) rs)) word)) (sym is) ∙ rw (same_tells alike (meaning r.key) word told) refl
-
-  pub roll_all : (n i : ℕ) → length rs ≡ i → look n (map (whole meaning) (drop i rs)) word ≡ Err (fault NoRecord)
-  roll_all n i all = at_drop_all (λ es. look n (map (whole meaning) es) word) rs i (omega arith)
 
 module _ (meant : List ℕ → Option (List ℕ)) (n : ℕ) (bs word : List ℕ) where
   pub sheet_more : (line after key : List ℕ) (s : Station) (alike : Bool) → cut 10 bs ≡ Some (line, after) → line_text meant line ≡ Some (key, s) → Decides alike (key ≡ word) → look n (sheet_entries meant bs) word ≡ cond alike (Ok s) (look (n + 1) (sheet_entries meant after) word)
