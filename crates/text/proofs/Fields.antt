@@ -1,6 +1,5 @@
 -- Cutting at a mark and stripping a label, by the parts of the text.
 use Rattle.std.proofs.Common.{◌≡◌, ℕ, zero, suc, ◌+◌, ◌<◌, true, false, cond, eqb, List, [], ◌∷◌, ◌++◌, length, get_or, drop, Some, None, Option, sym, refl, ap, ◌∙◌, subst, arith, Bor, MatchOption}
-use Rattle.std.proofs.lemmas.List.{length-append}
 use Rattle.std.proofs.lemmas.Bool.{eq-eqb, ne_eqb, eqb-true, eqb-false}
 use Rattle.std.specs.Str.Pattern.{FindsTextPrefix, LacksTextAt}
 use Rattle.std.specs.Option.{option_map}
@@ -56,9 +55,6 @@ cut_is c (b ∷ bs) xs ys e =
       | true ↦ λ p q. let same : b ≡ c = eqb-true b c p in let both : ◌≡◌ {A = List ℕ × List ℕ} ([], bs) (xs, ys) = cc in let l : [] ≡ xs = ap (λ (t : List ℕ × List ℕ). t.0) both in let r : bs ≡ ys = ap (λ (t : List ℕ × List ℕ). t.1) both in (rw (same, ← l, r) refl, subst (Lacks c) l (λ i low. absurd (omega arith)))
       | false ↦ λ p q. cut_past c b bs (cut c bs) xs ys (eqb-false b c p) (cut_is c bs) q
     ]) refl e
-
-pub cut_shorter : (c : ℕ) (bs xs ys : List ℕ) → cut c bs ≡ Some (xs, ys) → length ys < length bs
-cut_shorter c bs xs ys e = omega (arith, simp length-append at (ap length (cut_is c bs xs ys e).0))
 
 mapped_none : {X Y : Type 0} (f : X → Y) (o : Option X) → option_map f o ≡ None → o ≡ None
 mapped_none f None e = refl
