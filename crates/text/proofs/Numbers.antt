@@ -3,7 +3,7 @@ use Rattle.std.proofs.Common.{◌≡◌, ℕ, zero, suc, ◌+◌, ◌^◌, ◌<�
 use Rattle.std.proofs.lemmas.Fmt.{digits_decimal, digits_value-decimal, decimal_nonempty, first_decimal, decimal_digit, decimal-digits_value}
 use Rattle.std.proofs.lemmas.Str.Parse.{IsNumeralModel, numerals_by_value, tells_all_ascii_digits, not_in_digits, parse_plain, parse_signed_plain, parse_signed_minus}
 use Rattle.std.proofs.lemmas.Option.{cond_some}
-use Rattle.std.proofs.lemmas.Bool.{and_parts, ltb-true, lt-ltb, cases_lt, or_parts, or_cases}
+use Rattle.std.proofs.lemmas.Bool.{and_parts, ltb-true, lt-ltb, cases_lt, or_cases}
 use Rattle.std.proofs.lemmas.Bool.Decides.{nat_tests}
 use Rattle.std.specs.Result.{OkIff, result_ok}
 use Rattle.std.specs.Option.{option_map}
@@ -130,9 +130,6 @@ plus_parsed bs r p h =
 
 pub signed_parsed : {E : Type 0} (bs : List ℕ) (r : Result ℤ E) → (negative bs || plain bs) ≡ true → ParsesSigned w32 10 bs r → result_ok r ≡ signed_text bs
 signed_parsed bs r e h = elim (or_cases (negative bs) (plain bs) e) [ inl p ↦ minus_parsed bs r p h | inr p ↦ plus_parsed bs r p h ]
-
-pub signed_none : (bs : List ℕ) → (negative bs || plain bs) ≡ false → None ≡ signed_text bs
-signed_none bs e = let p = or_parts (negative bs) (plain bs) e in rw (p.0, p.1) refl
 
 decimal_first_digit : (n : ℕ) → n < 2 ^ 64 → get_or (decimal n) 0 0 < 58
 decimal_first_digit n fits = digit_low (decimal n) (digits_decimal own n fits)
