@@ -25,7 +25,7 @@ numbered_is bs w e =
     (s, station.0, (cut_is 46 bs xs ys parts.1).0 ∙ cc, sym station.2)
 
 pub numbered_exact : (bs : List ℕ) (r : Option NumberedKey) → option_map numbers r ≡ numbered_text bs → MatchOption r ((s t : ℕ) → s < 2 ^ 16 → t < 2 ^ 16 → bs ≡ dotted s t → ⊥) (λ k. bs ≡ dotted k.survey k.station)
-numbered_exact bs None e = λ s t ls lt is. let back = numbered_back s t ls lt in let z : ◌≡◌ {A = ℕ} 0 1 = cc in omega arith
+numbered_exact bs None e = λ s t ls lt is. let back = numbered_back s t ls lt in cc
 numbered_exact bs (Some k) e =
     let found = numbered_is bs (numbers k) (sym e) in
     let first : k.survey ≡ found.0 = cc found.3 in

@@ -1,5 +1,5 @@
 -- The 64-bit hash of a list of numbers.
-use Rattle.std.specs.Prelude.{ℕ, ◌*◌, ◌/◌, ◌%◌, ◌^◌, List, [], ◌∷◌, bit_xor}
+use Rattle.std.specs.Prelude.{ℕ, ◌*◌, ◌/◌, ◌%◌, ◌^◌, List, fold, bit_xor}
 
 -- the hash so far with one number more
 unfoldable pub mixed : ℕ → ℕ → ℕ
@@ -13,11 +13,6 @@ stirred h factor = bit_xor h (h / 2 ^ 33) * factor % 2 ^ 64
 unfoldable pub spread : ℕ → ℕ
 spread h = let x = stirred (stirred h 0xff51afd7ed558ccd) 0xc4ceb9fe1a85ec53 in bit_xor x (x / 2 ^ 33)
 
--- each number of a list mixed in
-abbrev pub hash_from : ℕ → List ℕ → ℕ
-hash_from h [] = h
-hash_from h (x ∷ xs) = hash_from (mixed h x) xs
-
 -- the hash of a list of numbers
 abbrev pub hash_of : List ℕ → ℕ
-hash_of xs = spread (hash_from 0xcbf29ce484222325 xs)
+hash_of xs = spread (fold mixed 0xcbf29ce484222325 xs)

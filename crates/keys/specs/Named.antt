@@ -1,5 +1,6 @@
 -- Named keys: their meaning, and their text.
-use Rattle.std.specs.Prelude.{ℕ, Bool, true, cond, ◌&&◌, ◌||◌, List, [], ◌∷◌, map, length, Some, None, codes, Option, ◌==◌, nat_le, nat_lt}
+use Rattle.std.specs.Prelude.{ℕ, Bool, cond, ◌&&◌, ◌||◌, List, map, length, Some, None, codes, Option, ◌==◌, nat_le, nat_lt}
+use Rattle.std.specs.List.{list_all}
 use Rattle.std.specs.Char.{is_ascii_alphanumeric, to_ascii_uppercase}
 
 -- what a byte of a name means: a small letter means its capital one
@@ -10,13 +11,9 @@ folded c = to_ascii_uppercase c
 abbrev pub name_byte : ℕ → Bool
 name_byte c = is_ascii_alphanumeric c || (c == 45 || c == 95)
 
-abbrev pub name_bytes : List ℕ → Bool
-name_bytes [] = true
-name_bytes (c ∷ cs) = name_byte c && name_bytes cs
-
 -- 1 to 16 such bytes
 abbrev pub is_name_lem : List ℕ → Bool
-is_name_lem bs = nat_lt 0 (length bs) && (nat_le (length bs) 16 && name_bytes bs)
+is_name_lem bs = nat_lt 0 (length bs) && (nat_le (length bs) 16 && list_all name_byte bs)
 
 -- the meaning that a text writes
 abbrev pub named_text : List ℕ → Option (List ℕ)

@@ -1,7 +1,12 @@
 //! Which key kind is meant, where a text says it.
 
-ghost use Rattle.std.specs.Prelude.{◌≡◌};
+ghost use Rattle.std.specs.Prelude.{◌≡◌, Some, codes};
+ghost use Rattle.std.specs.Result.{result_ok};
 ghost use Rattle.keys.specs.Choice.{kind_text};
+
+use std::error::Error;
+use std::fmt;
+use std::str::FromStr;
 
 /// One of the two kinds of key.
 #[derive(Clone, Copy, PartialEq, Eq, Debug)]
@@ -12,13 +17,30 @@ pub enum KeyKind {
     Name,
 }
 
-/// The kind that `text` names.
-pub fn read_kind(text: &str) -> Option<KeyKind>
-    ensures { result ≡ kind_text text.now }
-{
-    match text {
-        "number" => Some(KeyKind::Number),
-        "name" => Some(KeyKind::Name),
-        _ => None,
+/// The text names no kind of key.
+#[derive(Clone, Copy, PartialEq, Eq, Debug)]
+pub struct UnknownKind;
+
+impl fmt::Display for UnknownKind {
+    ghost output = { λ _. Some (codes "the kinds are kind=number and kind=name") };
+
+    fn fmt<W: fmt::Write>(&self, f: &mut fmt::Formatter<W>) -> fmt::Result {
+        f.write_str("the kinds are kind=number and kind=name")
+    }
+}
+
+impl Error for UnknownKind {}
+
+impl FromStr for KeyKind {
+    type Err = UnknownKind;
+
+    ghost from_str_gives = { λ text kind. result_ok kind ≡ kind_text text };
+
+    fn from_str(text: &str) -> Result<KeyKind, UnknownKind> {
+        match text {
+            "number" => Ok(KeyKind::Number),
+            "name" => Ok(KeyKind::Name),
+            _ => Err(UnknownKind),
+        }
     }
 }

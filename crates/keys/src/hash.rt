@@ -13,6 +13,7 @@ const FIRST_SPREAD: u64 = 0xff51_afd7_ed55_8ccd;
 const SECOND_SPREAD: u64 = 0xc4ce_b9fe_1a85_ec53;
 
 /// The hash so far with one number more.
+#[tactic(auto, unfolding(crate::specs::Hash::mixed))]
 pub fn mix(so_far: u64, number: u64) -> u64
     ensures { result ≡ mixed so_far number }
 {
@@ -20,6 +21,7 @@ pub fn mix(so_far: u64, number: u64) -> u64
 }
 
 /// The hash as it is handed out: near-equal lists get far hashes, in the low bits and in the top byte.
+#[tactic(auto, unfolding(crate::specs::Hash::spread, crate::specs::Hash::stirred))]
 pub fn finish(so_far: u64) -> u64
     ensures { result ≡ spread so_far }
 {

@@ -1,12 +1,13 @@
 //! Named keys: 1 to 16 ASCII letters, digits, hyphens and underscores, in which small letters mean capital ones.
 
-ghost use Rattle.std.specs.Prelude.{◌≡◌, map, take, IfSome, Some, Decides};
+ghost use Rattle.std.specs.Prelude.{◌≡◌, map, fold, IfSome, Some};
 ghost use Rattle.std.specs.Option.{option_map};
-ghost use Rattle.keys.specs.Hash.{hash_from, hash_of};
+ghost use Rattle.keys.specs.Hash.{hash_of, mixed};
 ghost use Rattle.keys.specs.Named.{folded, is_name_lem, name_byte, named_form, named_text};
 
 use crate::hash::{SEED, finish, mix};
 use crate::kind::{HashedKey, Key, WrittenKey};
+use arrayvec::ArrayString;
 use std::fmt;
 
 /// The most bytes that a name has.
@@ -15,96 +16,58 @@ pub const LONGEST_NAME: usize = 16;
 /// A station by its name, kept as it was first spelled.
 #[derive(Clone, Copy)]
 pub struct NamedKey {
-    length: u8,
-    bytes: [u8; LONGEST_NAME],
+    name: ArrayString<LONGEST_NAME>,
 }
 
 impl NamedKey {
     /// The bytes of the name as it was spelled.
     pub fn spelling(&self) -> &[u8]
-        ensures { result.now ≡ take self.now.length self.now.bytes }
+        ensures { result.now ≡ self.now.name.bytes }
     {
-        &self.bytes[0..LONGEST_NAME.min(self.length as usize)]
+        self.name.as_str().as_bytes()
     }
-}
-
-/// The byte by which a name's byte is compared and hashed: a small letter's capital one.
-fn fold(byte: u8) -> u8
-    ensures { result ≡ folded byte }
-{
-    byte.to_ascii_uppercase()
-}
-
-/// Whether two spellings mean one name.
-fn alike(left: &[u8], right: &[u8]) -> bool
-    ensures { Decides result (map folded left.now ≡ map folded right.now) }
-{
-    if left.len() != right.len() {
-        return false;
-    }
-    for place in 0..left.len() {
-        if fold(left[place]) != fold(right[place]) {
-            return false;
-        }
-    }
-    true
 }
 
 /// The numbers of a spelling's meaning, mixed into a hash.
 fn mix_name(spelling: &[u8]) -> u64
-    ensures { result ≡ hash_from 0xcbf29ce484222325 (map folded spelling.now) }
+    ensures { result ≡ fold mixed 0xcbf29ce484222325 (map folded spelling.now) }
 {
-    let mut so_far = SEED;
-    for byte in spelling {
-        so_far = mix(so_far, fold(*byte) as u64);
-    }
-    so_far
+    spelling.iter().fold(SEED, |so_far, byte| {
+        mix(so_far, u64::from(byte.to_ascii_uppercase()))
+    })
 }
 
 /// Whether a name may hold `byte`.
 fn is_name_byte(byte: u8) -> bool
     ensures { result ≡ name_byte byte }
 {
-    matches!(byte, b'0'..=b'9' | b'A'..=b'Z' | b'a'..=b'z' | b'-' | b'_')
+    byte.is_ascii_alphanumeric() || byte == b'-' || byte == b'_'
 }
 
 /// Whether `bytes` spells a name.
 fn is_name(bytes: &[u8]) -> bool
     ensures { result ≡ is_name_lem bytes.now }
 {
-    if bytes.is_empty() || bytes.len() > LONGEST_NAME {
-        return false;
-    }
-    for byte in bytes {
-        if !is_name_byte(*byte) {
-            return false;
-        }
-    }
-    true
+    (1..=LONGEST_NAME).contains(&bytes.len()) && bytes.iter().all(|byte| is_name_byte(*byte))
 }
 
 /// The named key that `text` writes.
 pub fn read_named(text: &str) -> Option<NamedKey>
-    ensures value { option_map (λ k. map folded (take k.length k.bytes)) result ≡ named_text text.now }
-    ensures spelled { IfSome result (λ k. take k.length k.bytes ≡ text.now) }
+    ensures value { option_map (λ k. map folded k.name.bytes) result ≡ named_text text.now }
+    ensures spelled { IfSome result (λ k. k.name.bytes ≡ text.now) }
 {
-    let spelling = text.as_bytes();
-    if !is_name(spelling) {
+    if !is_name(text.as_bytes()) {
         return None;
     }
-    let mut bytes = [0; LONGEST_NAME];
-    bytes[0..spelling.len()].copy_from_slice(spelling);
-    Some(NamedKey {
-        length: spelling.len() as u8,
-        bytes,
-    })
+    let name = ArrayString::from(text).ok()?;
+    Some(NamedKey { name })
 }
 
 impl Key for NamedKey {
-    ghost meaning = { λ k. map folded (take k.length k.bytes) };
+    ghost meaning = { λ k. map folded k.name.bytes };
 
     fn same(&self, other: &Self) -> bool {
-        alike(self.spelling(), other.spelling())
+        self.spelling().eq_ignore_ascii_case(other.spelling())
     }
 }
 
@@ -117,13 +80,10 @@ impl HashedKey for NamedKey {
 }
 
 impl fmt::Display for NamedKey {
-    ghost output = { λ k. Some (take k.length k.bytes) };
+    ghost output = { λ k. Some k.name.bytes };
 
     fn fmt<W: fmt::Write>(&self, f: &mut fmt::Formatter<W>) -> fmt::Result {
-        match std::str::from_utf8(self.spelling()) {
-            Ok(spelling) => f.write_str(spelling),
-            Err(_) => Err(fmt::Error),
-        }
+        f.write_str(self.name.as_str())
     }
 }
 

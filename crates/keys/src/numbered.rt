@@ -9,7 +9,7 @@ use crate::hash::{SEED, finish, mix};
 use crate::kind::{HashedKey, Key, WrittenKey};
 use std::fmt;
 use text::field::{Mark, cut_at};
-use text::number::read_u16;
+use text::number::read_number;
 
 /// A station by the number of its survey and its own number there.
 #[derive(Clone, Copy, PartialEq, Eq, Debug)]
@@ -22,7 +22,7 @@ impl Key for NumberedKey {
     ghost meaning = { numbers };
 
     fn same(&self, other: &Self) -> bool {
-        self.survey == other.survey && self.station == other.station
+        self == other
     }
 }
 
@@ -30,7 +30,9 @@ impl HashedKey for NumberedKey {
     ghost hashed = { hash_of };
 
     fn hash(&self) -> u64 {
-        finish(mix(mix(SEED, self.survey as u64), self.station as u64))
+        let survey = u64::from(self.survey);
+        let station = u64::from(self.station);
+        finish(mix(mix(SEED, survey), station))
     }
 }
 
@@ -38,28 +40,21 @@ impl fmt::Display for NumberedKey {
     ghost output = { λ k. Some (dotted k.survey k.station) };
 
     fn fmt<W: fmt::Write>(&self, f: &mut fmt::Formatter<W>) -> fmt::Result {
-        let survey = self.survey;
-        let station = self.station;
+        let NumberedKey { survey, station } = *self;
         write!(f, "{survey}.{station}")
     }
 }
 
-/// The two numbers around the first dot.
-fn parse_numbered(text: &str) -> Option<NumberedKey>
-    ensures { option_map numbers result ≡ numbered_text text.now }
-{
-    let (survey, station) = cut_at(text, Mark::Dot)?;
-    let survey = read_u16(survey)?;
-    let station = read_u16(station)?;
-    Some(NumberedKey { survey, station })
-}
-
 /// The numbered key that `text` writes: no text but `SURVEY.STATION` is read, and each of these is.
+#[tactic(auto, using(crate::proofs::Numbering::numbered_exact))]
 pub fn read_numbered(text: &str) -> Option<NumberedKey>
     ensures value { option_map numbers result ≡ numbered_text text.now }
     ensures exact { MatchOption result ((s t : ℕ) → s < 2 ^ 16 → t < 2 ^ 16 → text.now ≢ dotted s t) (λ k. text.now ≡ dotted k.survey k.station) }
 {
-    parse_numbered(text)
+    let (survey, station) = cut_at(text, Mark::Dot)?;
+    let survey = read_number(survey)?;
+    let station = read_number(station)?;
+    Some(NumberedKey { survey, station })
 }
 
 impl WrittenKey for NumberedKey {

@@ -16,11 +16,13 @@ mod tests {
         top: [u16; 256],
     }
 
-    fn count(spread: &mut Spread, hash: u64) {
-        let low = (hash % 256) as usize;
-        let top = (hash >> 56) as usize % 256;
-        spread.low[low] = spread.low[low].saturating_add(1);
-        spread.top[top] = spread.top[top].saturating_add(1);
+    impl Spread {
+        fn count(&mut self, hash: u64) {
+            let low = (hash % 256) as usize;
+            let top = (hash >> 56) as usize % 256;
+            self.low[low] = self.low[low].saturating_add(1);
+            self.top[top] = self.top[top].saturating_add(1);
+        }
     }
 
     fn fullest(buckets: &[u16]) -> u16 {
@@ -40,43 +42,44 @@ mod tests {
         assert!(rt; emptiest(&top) >= 2, "emptiest by top byte");
     }
 
-    #[test]
-    fn stations_of_a_survey_spread(rt: HostRuntime) {
-        let mut spread = Spread {
-            low: [0; 256],
-            top: [0; 256],
-        };
-        for station in 0..4096u16 {
-            count(&mut spread, NumberedKey { survey: 1, station }.hash());
-        }
-        check_even(&rt, spread);
-    }
-
-    #[test]
-    fn surveys_spread(rt: HostRuntime) {
-        let mut spread = Spread {
-            low: [0; 256],
-            top: [0; 256],
-        };
-        for survey in 0..4096u16 {
-            count(&mut spread, NumberedKey { survey, station: 1 }.hash());
-        }
-        check_even(&rt, spread);
-    }
-
-    #[test]
-    fn names_spread(rt: HostRuntime) -> Result<(), Fail> {
+    fn check_spread<F: Fn(u16) -> Result<u64, Fail>>(
+        rt: &impl Abort,
+        hash_of: F,
+    ) -> Result<(), Fail>
+        requires { F.IsAlwaysCallable hash_of }
+    {
         let mut spread = Spread {
             low: [0; 256],
             top: [0; 256],
         };
         for number in 0..4096u16 {
+            spread.count(hash_of(number)?);
+        }
+        check_even(rt, spread);
+        Ok(())
+    }
+
+    #[test]
+    fn stations_of_a_survey_spread(rt: HostRuntime) -> Result<(), Fail> {
+        check_spread(&rt, |station| {
+            Ok(NumberedKey { survey: 1, station }.hash())
+        })
+    }
+
+    #[test]
+    fn surveys_spread(rt: HostRuntime) -> Result<(), Fail> {
+        check_spread(&rt, |survey| {
+            Ok(NumberedKey { survey, station: 1 }.hash())
+        })
+    }
+
+    #[test]
+    fn names_spread(rt: HostRuntime) -> Result<(), Fail> {
+        check_spread(&rt, |number| {
             let name = format!(in rt.alloc(); "Upper-{number}")?;
             let key = NamedKey::read(name.as_str()).ok_or("a name")?;
-            count(&mut spread, key.hash());
-        }
-        check_even(&rt, spread);
-        Ok(())
+            Ok(key.hash())
+        })
     }
 
     #[test]

@@ -70,10 +70,8 @@ impl Fault {
     pub fn passed_up(self) -> Self
         ensures { result ≡ passed_up_lem self }
     {
-        Fault {
-            cause: self.cause,
-            depth: self.depth.saturating_add(1),
-        }
+        let depth = self.depth.saturating_add(1);
+        Fault { depth, ..self }
     }
 }
 
@@ -81,8 +79,5 @@ impl Fault {
 pub fn handed_up<V>(answer: Result<V, Fault>) -> Result<V, Fault>
     ensures { result ≡ raised answer }
 {
-    match answer {
-        Ok(value) => Ok(value),
-        Err(fault) => Err(fault.passed_up()),
-    }
+    answer.map_err(Fault::passed_up)
 }

@@ -8,7 +8,6 @@ use crate::loader::Loader;
 use keys::kind::WrittenKey;
 use survey::entry::read_entry;
 use survey::station::Station;
-use text::field::{Mark, cut_at};
 
 /// A loader over the text of a survey sheet.
 #[derive(Clone, Copy)]
@@ -20,21 +19,13 @@ pub struct Sheet<'a> {
 fn search_sheet<K: WrittenKey>(sheet: &str, key: &K) -> Result<Station, Fault>
     ensures { result ≡ look 1 (sheet_entries K.WrittenKey.meant sheet.now) (K.Key.meaning key.now) }
 {
-    let mut rest = sheet;
-    let mut before = 0;
-    'lines: while !rest.is_empty() {
+    for (before, line) in sheet.split_inclusive('\n').enumerate() {
         let broken = Fault::new(Cause::BrokenLine(before + 1));
-        let Some((line, after)) = cut_at(rest, Mark::LineFeed) else {
-            return Err(broken);
-        };
-        let Some(entry) = read_entry::<K>(line) else {
-            return Err(broken);
-        };
+        let line = line.strip_suffix('\n').ok_or(broken)?;
+        let entry = read_entry::<K>(line).ok_or(broken)?;
         if entry.key.same(key) {
             return Ok(entry.value);
         }
-        rest = after;
-        before += 1;
     }
     Err(Fault::new(Cause::NoRecord))
 }

@@ -3,7 +3,7 @@
 ghost use Rattle.std.specs.Prelude.{◌≡◌, ◌+ℤ◌};
 ghost use Rattle.loaders.specs.Layer.{fitting, moved, shifted};
 
-use crate::fault::{Cause, Fault};
+use crate::fault::{Cause, Fault, handed_up};
 use crate::loader::Loader;
 use keys::kind::Key;
 use survey::station::Station;
@@ -36,12 +36,7 @@ impl<K: Key, L: Loader<K, Station>> Loader<K, Station> for Shift<L> {
     ghost given = { λ layer word. shifted layer.offset (L.Loader.given layer.below word) };
 
     fn ask(&mut self, key: &K) -> Result<Station, Fault> {
-        match self.below.ask(key) {
-            Ok(station) => match sum(station, self.offset) {
-                Some(place) => Ok(place),
-                None => Err(Fault::new(Cause::OutOfRange)),
-            },
-            Err(fault) => Err(fault.passed_up()),
-        }
+        let station = handed_up(self.below.ask(key))?;
+        sum(station, self.offset).ok_or(Fault::new(Cause::OutOfRange))
     }
 }

@@ -9,8 +9,8 @@ use Rattle.loaders.specs.Look.{look, sheet_entries}
 use Rattle.loaders.specs.declared.fault.Fault.{Fault}
 use Rattle.survey.specs.Station.{written}
 use Rattle.survey.specs.declared.station.Station.{Station}
-use Rattle.lookup.specs.declared.reply.Finding.{Finding}
-use Rattle.lookup.specs.declared.reply.Finding.TheVariants.{At, Refused, Unread}
+use Rattle.lookup.specs.declared.reply.Untold.{Untold}
+use Rattle.lookup.specs.declared.reply.Untold.TheVariants.{Refused, Unread}
 use Rattle.lookup.specs.declared.reply.Reply.{Reply}
 
 -- a line for a key
@@ -23,10 +23,13 @@ refusal f = codes "cause=" ++ (decimal (cause_number f.cause) ++ (codes ": " ++ 
 abbrev pub advice : List ℕ → List ℕ
 advice form = codes "unread: a key is " ++ form
 
-abbrev pub finding_text : Finding → List ℕ
-finding_text (At s) = written s
-finding_text (Refused f) = refusal f
-finding_text (Unread form) = advice form.now
+abbrev pub untold_text : Untold → List ℕ
+untold_text (Refused f) = refusal f
+untold_text (Unread form) = advice form.now
+
+abbrev pub finding_text : Result Station Untold → List ℕ
+finding_text (Ok s) = written s
+finding_text (Err why) = untold_text why
 
 -- the line that a reply is printed as
 abbrev pub reply_text : Reply → List ℕ

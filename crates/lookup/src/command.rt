@@ -16,15 +16,16 @@ pub enum Word<'a> {
     Key(&'a str),
 }
 
-/// What a word of the command line is.
-pub fn read_word(text: &str) -> Word<'_>
-    ensures { word_of result ≡ word_text text.now }
-{
-    if let Some(kind) = after_label(text, "kind=") {
-        return Word::Kind(kind);
-    }
-    match after_label(text, "sheet=") {
-        Some(file) => Word::Sheet(file),
-        None => Word::Key(text),
+impl<'a> From<&'a str> for Word<'a> {
+    ghost from_gives = { λ text word. word_of word ≡ word_text text.now };
+
+    fn from(text: &'a str) -> Word<'a> {
+        if let Some(kind) = after_label(text, "kind=") {
+            Word::Kind(kind)
+        } else if let Some(file) = after_label(text, "sheet=") {
+            Word::Sheet(file)
+        } else {
+            Word::Key(text)
+        }
     }
 }

@@ -4,8 +4,8 @@
 #![tactic(auto)]
 
 use anyhow::{Context, anyhow};
-use keys::choice::{KeyKind, read_kind};
-use lookup::command::{Word, read_word};
+use keys::choice::KeyKind;
+use lookup::command::Word;
 use lookup::reply::look_up_in_sheet;
 use std::{env, fs};
 
@@ -15,26 +15,19 @@ const USAGE: &str = "usage: stations kind=number|name sheet=FILE KEY ..";
 fn tell(
     rt: &HostRuntime,
     kind: Option<KeyKind>,
-    sheet: &Option<String>,
+    sheet: Option<&str>,
     key: &str,
 ) -> anyhow::Result<()> {
-    let Some(kind) = kind else {
-        return Err(anyhow!("write kind=number or kind=name before the first key"));
-    };
-    let Some(sheet) = sheet else {
-        return Err(anyhow!("write sheet=FILE before the first key"));
-    };
-    let reply = look_up_in_sheet(kind, sheet.as_str(), key);
+    let kind = kind.context("write kind=number or kind=name before the first key")?;
+    let sheet = sheet.context("write sheet=FILE before the first key")?;
+    let reply = look_up_in_sheet(kind, sheet, key);
     println!(rt; "{reply}")?;
     Ok(())
 }
 
 /// The text of a sheet's file.
 fn read_sheet(rt: &HostRuntime, path: &str) -> anyhow::Result<String> {
-    match fs::read_to_string(rt, path) {
-        Ok(text) => Ok(text),
-        Err(error) => Err(anyhow!(format!(in rt.alloc(); "cannot read sheet={path}: {error}")?)),
-    }
+    fs::read_to_string(rt, path).map_err(|error| anyhow!("cannot read sheet={path}: {error}"))
 }
 
 /// Does what the words of the command line say, one after another.
@@ -43,15 +36,11 @@ fn run(rt: &HostRuntime) -> anyhow::Result<()> {
     let mut sheet: Option<String> = None;
     let mut told = false;
     for word in env::args(rt)?.skip(1) {
-        match read_word(word.as_str()) {
-            Word::Kind(name) => {
-                kind = Some(read_kind(name).context("the kinds are kind=number and kind=name")?);
-            }
-            Word::Sheet(path) => {
-                sheet = Some(read_sheet(rt, path)?);
-            }
+        match Word::from(word.as_str()) {
+            Word::Kind(name) => kind = Some(name.parse::<KeyKind>()?),
+            Word::Sheet(path) => sheet = Some(read_sheet(rt, path)?),
             Word::Key(key) => {
-                tell(rt, kind, &sheet, key)?;
+                tell(rt, kind, sheet.as_deref(), key)?;
                 told = true;
             }
         }

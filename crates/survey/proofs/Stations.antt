@@ -38,4 +38,4 @@ station_is bs s h =
 
 pub station_exact : (bs : List ℕ) (r : Option Station) → r ≡ station_text bs → MatchOption r ((s : Station) → Fitting s → bs ≡ written s → ⊥) (λ s. bs ≡ written s)
 station_exact bs (Some s) e = station_is bs s (sym e)
-station_exact bs None e = λ s fits is. let back = station_back s fits in let z : ◌≡◌ {A = ℕ} 0 1 = cc in omega arith
+station_exact bs None e = λ s fits is. let back = station_back s fits in cc

@@ -1,6 +1,5 @@
 -- Cutting at a mark and stripping a label, by the parts of the text.
 use Rattle.std.proofs.Common.{◌≡◌, ℕ, zero, suc, ◌+◌, ◌<◌, true, false, cond, eqb, List, [], ◌∷◌, ◌++◌, length, get_or, drop, Some, None, Option, sym, refl, ap, ◌∙◌, subst, arith, Bor, MatchOption}
-use Rattle.std.proofs.lemmas.List.{length-append}
 use Rattle.std.proofs.lemmas.Bool.{eq-eqb, ne_eqb, eqb-true, eqb-false}
 use Rattle.std.specs.Str.Pattern.{FindsTextPrefix, LacksTextAt}
 use Rattle.std.specs.Option.{option_map}
@@ -8,11 +7,11 @@ use Rattle.text.specs.Field.{ahead, and_then, cut, field_text, parts, stripped}
 
 -- a chain of steps that came to its end came through each step
 pub then_some : {X Y : Type 0} (o : Option X) (f : X → Option Y) (y : Y) → and_then o f ≡ Some y → (x : X) × (o ≡ Some x) × (f x ≡ Some y)
-then_some None f y e = let z : ◌≡◌ {A = ℕ} 0 1 = cc in absurd (omega arith)
+then_some None f y e = cc
 then_some (Some x) f y e = (x, refl, e)
 
 pub mapped_some : {X Y : Type 0} (f : X → Y) (o : Option X) (y : Y) → option_map f o ≡ Some y → (x : X) × (o ≡ Some x) × (f x ≡ y)
-mapped_some f None y e = let z : ◌≡◌ {A = ℕ} 0 1 = cc in absurd (omega arith)
+mapped_some f None y e = cc
 mapped_some f (Some x) y e = (x, refl, cc)
 
 -- a text without c
@@ -41,7 +40,7 @@ cut_from_split c bs (Some x) h = sym (ap (cut c) h.0 ∙ cut_some c x.0.now x.1.
 
 -- a cut gives the parts back
 cut_past : (c b : ℕ) (bs : List ℕ) (o : Option (List ℕ × List ℕ)) (xs ys : List ℕ) → (b ≡ c → ⊥) → ((us vs : List ℕ) → o ≡ Some (us, vs) → (bs ≡ us ++ (c ∷ vs)) × Lacks c us) → option_map (ahead b) o ≡ Some (xs, ys) → (b ∷ bs ≡ xs ++ (c ∷ ys)) × Lacks c xs
-cut_past c b bs None xs ys other ih e = let z : ◌≡◌ {A = ℕ} 0 1 = cc in absurd (omega arith)
+cut_past c b bs None xs ys other ih e = cc
 cut_past c b bs (Some (us, vs)) xs ys other ih e =
     let h = ih us vs refl in
     let both : ◌≡◌ {A = List ℕ × List ℕ} (b ∷ us, vs) (xs, ys) = cc in
@@ -50,25 +49,22 @@ cut_past c b bs (Some (us, vs)) xs ys other ih e =
     (ap (λ l. b ∷ l) h.0 ∙ cc, subst (Lacks c) p (lacks_more c b us other h.1))
 
 pub cut_is : (c : ℕ) (bs : List ℕ) (xs ys : List ℕ) → cut c bs ≡ Some (xs, ys) → (bs ≡ xs ++ (c ∷ ys)) × Lacks c xs
-cut_is c [] xs ys e = let z : ◌≡◌ {A = ℕ} 0 1 = cc in absurd (omega arith)
+cut_is c [] xs ys e = cc
 cut_is c (b ∷ bs) xs ys e =
     (elim (eqb b c) as (λ t. eqb b c ≡ t → ◌≡◌ {A = Option (List ℕ × List ℕ)} (cond t (Some ([], bs)) (option_map (ahead b) (cut c bs))) (Some (xs, ys)) → (b ∷ bs ≡ xs ++ (c ∷ ys)) × Lacks c xs) [
       | true ↦ λ p q. let same : b ≡ c = eqb-true b c p in let both : ◌≡◌ {A = List ℕ × List ℕ} ([], bs) (xs, ys) = cc in let l : [] ≡ xs = ap (λ (t : List ℕ × List ℕ). t.0) both in let r : bs ≡ ys = ap (λ (t : List ℕ × List ℕ). t.1) both in (rw (same, ← l, r) refl, subst (Lacks c) l (λ i low. absurd (omega arith)))
       | false ↦ λ p q. cut_past c b bs (cut c bs) xs ys (eqb-false b c p) (cut_is c bs) q
     ]) refl e
 
-pub cut_shorter : (c : ℕ) (bs xs ys : List ℕ) → cut c bs ≡ Some (xs, ys) → length ys < length bs
-cut_shorter c bs xs ys e = omega (arith, simp length-append at (ap length (cut_is c bs xs ys e).0))
-
 mapped_none : {X Y : Type 0} (f : X → Y) (o : Option X) → option_map f o ≡ None → o ≡ None
 mapped_none f None e = refl
-mapped_none f (Some x) e = let z : ◌≡◌ {A = ℕ} 0 1 = cc in absurd (omega arith)
+mapped_none f (Some x) e = cc
 
 pub cut_lacks : (c : ℕ) (bs : List ℕ) → cut c bs ≡ None → Lacks c bs
 cut_lacks c [] e = λ i low. absurd (omega arith)
 cut_lacks c (b ∷ bs) e =
     (elim (eqb b c) as (λ t. eqb b c ≡ t → ◌≡◌ {A = Option (List ℕ × List ℕ)} (cond t (Some ([], bs)) (option_map (ahead b) (cut c bs))) None → Lacks c (b ∷ bs)) [
-      | true ↦ λ p q. let z : ◌≡◌ {A = ℕ} 0 1 = cc in absurd (omega arith)
+      | true ↦ λ p q. cc
       | false ↦ λ p q. lacks_more c b bs (eqb-false b c p) (cut_lacks c bs (mapped_none (ahead b) (cut c bs) q))
     ]) refl e
 
@@ -78,11 +74,11 @@ stripped_prefix (l ∷ ls) rest = rw (eq-eqb l l refl) (stripped_prefix ls rest)
 
 pub stripped_is : (label bs rest : List ℕ) → stripped label bs ≡ Some rest → bs ≡ label ++ rest
 stripped_is [] bs rest e = let p : bs ≡ rest = cc in p
-stripped_is (l ∷ ls) [] rest e = let z : ◌≡◌ {A = ℕ} 0 1 = cc in absurd (omega arith)
+stripped_is (l ∷ ls) [] rest e = cc
 stripped_is (l ∷ ls) (b ∷ bs) rest e =
     (elim (eqb l b) as (λ t. eqb l b ≡ t → cond t (stripped ls bs) None ≡ Some rest → b ∷ bs ≡ l ∷ (ls ++ rest)) [
       | true ↦ λ p q. let same : l ≡ b = eqb-true l b p in let ih = stripped_is ls bs rest q in cc
-      | false ↦ λ p q. let z : ◌≡◌ {A = ℕ} 0 1 = cc in absurd (omega arith)
+      | false ↦ λ p q. cc
     ]) refl e
 
 stripped_none : (label bs : List ℕ) (o : Option (List ℕ)) → LacksTextAt label bs 0 → stripped label bs ≡ o → None ≡ o

@@ -2,7 +2,8 @@
 use Rattle.std.proofs.Common.{◌≡◌, ℕ, zero, suc, ◌+◌, ◌^◌, ◌<◌, ◌≤◌, Bool, true, false, cond, ◌&&◌, ◌||◌, ltb, List, [], ◌∷◌, length, get_or, drop, ℤ, pos, negsuc, neg_ℤ, Some, None, Ok, Err, decimal, Decides, Option, Result, sym, refl, ap, ◌∙◌, inl, inr, arith, w32, SFits, MatchOption}
 use Rattle.std.proofs.lemmas.Fmt.{digits_decimal, digits_value-decimal, decimal_nonempty, first_decimal, decimal_digit, decimal-digits_value}
 use Rattle.std.proofs.lemmas.Str.Parse.{IsNumeralModel, numerals_by_value, tells_all_ascii_digits, not_in_digits, parse_plain, parse_signed_plain, parse_signed_minus}
-use Rattle.std.proofs.lemmas.Bool.{and_parts, ltb-true, lt-ltb, cases_lt, or_parts, or_cases}
+use Rattle.std.proofs.lemmas.Option.{cond_some}
+use Rattle.std.proofs.lemmas.Bool.{and_parts, ltb-true, lt-ltb, cases_lt, or_cases}
 use Rattle.std.proofs.lemmas.Bool.Decides.{nat_tests}
 use Rattle.std.specs.Result.{OkIff, result_ok}
 use Rattle.std.specs.Option.{option_map}
@@ -23,7 +24,7 @@ converted_cond (Err e) v true never d = absurd (never (d.0 refl))
 converted_cond (Err e) v false never d = refl
 
 pub plain_some : (bs : List ℕ) → plain bs ≡ true → 0 < length bs
-plain_some [] e = let z : ◌≡◌ {A = ℕ} 0 1 = cc in omega arith
+plain_some [] e = cc
 plain_some (c ∷ cs) e = omega arith
 
 pub plain_zero : (bs : List ℕ) → plain bs ≡ true → get_or bs 0 0 ≡ 48 → length bs ≡ 1
@@ -33,7 +34,7 @@ plain_zero (c ∷ (d ∷ ds)) e z = absurd (grind (arith, nat_tests))
 
 -- a text that begins plainly begins with a digit
 pub plain_not : (c : ℕ) (bs : List ℕ) → plain bs ≡ true → c < 48 → get_or bs 0 0 ≡ c → ⊥
-plain_not c [] e low is = let z : ◌≡◌ {A = ℕ} 0 1 = cc in omega arith
+plain_not c [] e low is = cc
 plain_not c (d ∷ []) e low is = grind (arith, nat_tests)
 plain_not c (d ∷ (f ∷ ds)) e low is = grind (arith, nat_tests)
 
@@ -60,21 +61,17 @@ unsigned_back limit n low fits =
 -- a text that is read is the numeral of its number
 pub unsigned_is : (limit : ℕ) (bs : List ℕ) (n : ℕ) → limit ≤ 2 ^ 64 → unsigned_text limit bs ≡ Some n → (bs ≡ decimal n) × (n < limit)
 unsigned_is limit bs n big e =
-    (elim (plain bs && (all_ascii_digits bs && ltb (digits_value 10 bs) limit)) as (λ t. (plain bs && (all_ascii_digits bs && ltb (digits_value 10 bs) limit)) ≡ t → cond t (Some (digits_value 10 bs)) None ≡ Some n → (bs ≡ decimal n) × (n < limit)) [
-      | true ↦ λ t s.
-          let a = and_parts (plain bs) (all_ascii_digits bs && ltb (digits_value 10 bs) limit) t in
-          let b = and_parts (all_ascii_digits bs) (ltb (digits_value 10 bs) limit) a.1 in
-          let l = ltb-true (digits_value 10 bs) limit b.1 in
-          let v : digits_value 10 bs ≡ n = cc in
-          let d = decimal-digits_value own bs b.0 (plain_some bs a.0) (plain_zero bs a.0) (omega arith) in
-          (sym d ∙ ap decimal v, omega arith)
-      | false ↦ λ t s. let z : ◌≡◌ {A = ℕ} 0 1 = cc in absurd (omega arith)
-    ]) refl e
+    let found = cond_some (plain bs && (all_ascii_digits bs && ltb (digits_value 10 bs) limit)) (digits_value 10 bs) n e in
+    let a = and_parts (plain bs) (all_ascii_digits bs && ltb (digits_value 10 bs) limit) found.0 in
+    let b = and_parts (all_ascii_digits bs) (ltb (digits_value 10 bs) limit) a.1 in
+    let l = ltb-true (digits_value 10 bs) limit b.1 in
+    let d = decimal-digits_value own bs b.0 (plain_some bs a.0) (plain_zero bs a.0) (omega arith) in
+    (sym d ∙ ap decimal found.1, omega arith)
 
 -- no text but a numeral below the limit is read, and each of these is
 pub unsigned_exact : (limit : ℕ) (bs : List ℕ) (r : Option ℕ) → limit ≤ 2 ^ 64 → r ≡ unsigned_text limit bs → MatchOption r ((n : ℕ) → n < limit → bs ≡ decimal n → ⊥) (λ n. bs ≡ decimal n)
 unsigned_exact limit bs (Some n) big e = (unsigned_is limit bs n big (sym e)).0
-unsigned_exact limit bs None big e = λ n low is. let back = unsigned_back limit n low (omega arith) in let z : ◌≡◌ {A = ℕ} 0 1 = cc in omega arith
+unsigned_exact limit bs None big e = λ n low is. let back = unsigned_back limit n low (omega arith) in cc
 
 -- what `parse` makes of a text that begins plainly
 pub unsigned_parsed : {E : Type 0} (k : ℕ) (bs : List ℕ) (r : Result ℕ E) → plain bs ≡ true → ParsesUnsigned k 10 bs r → result_ok r ≡ unsigned_text (2 ^ k) bs
@@ -93,8 +90,8 @@ mapped_cond f false x = refl
 
 -- a text that begins with a minus and 1 to 9, taken apart
 negative_parts : (bs : List ℕ) → negative bs ≡ true → (bs ≡ 45 ∷ drop 1 bs) × (get_or bs 0 0 ≡ 45) × (plain (drop 1 bs) ≡ true) × (48 < get_or (drop 1 bs) 0 0)
-negative_parts [] e = let z : ◌≡◌ {A = ℕ} 0 1 = cc in absurd (omega arith)
-negative_parts (c ∷ []) e = let z : ◌≡◌ {A = ℕ} 0 1 = cc in absurd (omega arith)
+negative_parts [] e = cc
+negative_parts (c ∷ []) e = cc
 negative_parts (c ∷ (d ∷ [])) e = let p : c ≡ 45 = grind (arith, nat_tests) in (ap (λ x. x ∷ (d ∷ [])) p, p, grind (arith, nat_tests), grind (arith, nat_tests))
 negative_parts (c ∷ (d ∷ (f ∷ ds))) e = let p : c ≡ 45 = grind (arith, nat_tests) in (ap (λ x. x ∷ (d ∷ (f ∷ ds))) p, p, grind (arith, nat_tests), grind (arith, nat_tests))
 
@@ -134,9 +131,6 @@ plus_parsed bs r p h =
 pub signed_parsed : {E : Type 0} (bs : List ℕ) (r : Result ℤ E) → (negative bs || plain bs) ≡ true → ParsesSigned w32 10 bs r → result_ok r ≡ signed_text bs
 signed_parsed bs r e h = elim (or_cases (negative bs) (plain bs) e) [ inl p ↦ minus_parsed bs r p h | inr p ↦ plus_parsed bs r p h ]
 
-pub signed_none : (bs : List ℕ) → (negative bs || plain bs) ≡ false → None ≡ signed_text bs
-signed_none bs e = let p = or_parts (negative bs) (plain bs) e in rw (p.0, p.1) refl
-
 decimal_first_digit : (n : ℕ) → n < 2 ^ 64 → get_or (decimal n) 0 0 < 58
 decimal_first_digit n fits = digit_low (decimal n) (digits_decimal own n fits)
 
@@ -157,7 +151,7 @@ signed_back (negsuc n) fits =
 
 -- a text that is read is the numeral of its number
 minus_is : (bs : List ℕ) (o : Option ℕ) (z : ℤ) → negative bs ≡ true → unsigned_text (2 ^ 31 + 1) (drop 1 bs) ≡ o → option_map (λ n. neg_ℤ (pos n)) o ≡ Some z → bs ≡ signed_decimal z
-minus_is bs None z p u e = let no_number : ◌≡◌ {A = ℕ} 0 1 = cc in absurd (omega arith)
+minus_is bs None z p u e = cc
 minus_is bs (Some zero) z p u e =
     let parts = negative_parts bs p in
     let is = (unsigned_is (2 ^ 31 + 1) (drop 1 bs) 0 (omega arith) u).0 in
@@ -170,7 +164,7 @@ minus_is bs (Some (suc n)) z p u e =
     parts.0 ∙ ap (λ ds. 45 ∷ ds) is ∙ ap signed_decimal sign
 
 plus_is : (bs : List ℕ) (o : Option ℕ) (z : ℤ) → unsigned_text (2 ^ 31) bs ≡ o → option_map pos o ≡ Some z → bs ≡ signed_decimal z
-plus_is bs None z u e = let no_number : ◌≡◌ {A = ℕ} 0 1 = cc in absurd (omega arith)
+plus_is bs None z u e = cc
 plus_is bs (Some n) z u e = let sign : pos n ≡ z = cc in (unsigned_is (2 ^ 31) bs n (omega arith) u).0 ∙ ap signed_decimal sign
 
 pub signed_is : (bs : List ℕ) (z : ℤ) → signed_text bs ≡ Some z → bs ≡ signed_decimal z
@@ -183,7 +177,7 @@ signed_is bs z e =
 -- no text but a numeral of 32 bits with a sign is read, and each of these is
 pub signed_exact : (bs : List ℕ) (r : Option ℤ) → r ≡ signed_text bs → MatchOption r ((z : ℤ) → SFits w32 z → bs ≡ signed_decimal z → ⊥) (λ z. bs ≡ signed_decimal z)
 signed_exact bs (Some z) e = signed_is bs z (sym e)
-signed_exact bs None e = λ z fits is. let back = signed_back z fits in let none : ◌≡◌ {A = ℕ} 0 1 = cc in omega arith
+signed_exact bs None e = λ z fits is. let back = signed_back z fits in cc
 
 -- a numeral holds digits and a minus alone
 pub decimal_lacks : (c n : ℕ) → n < 2 ^ 64 → (IsInRange 48 57 c → ⊥) → Lacks c (decimal n)

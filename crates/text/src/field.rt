@@ -15,12 +15,11 @@ pub enum Mark {
     Dot,
 }
 
-impl Mark {
-    /// The mark as a character.
-    pub fn char(self) -> char
-        ensures { result ≡ mark_code self }
-    {
-        match self {
+impl From<Mark> for char {
+    ghost from_gives = { λ mark c. c ≡ mark_code mark };
+
+    fn from(mark: Mark) -> char {
+        match mark {
             Mark::LineFeed => '\n',
             Mark::Space => ' ',
             Mark::Dot => '.',
@@ -32,7 +31,7 @@ impl Mark {
 pub fn cut_at(text: &str, mark: Mark) -> Option<(&str, &str)>
     ensures { option_map parts result ≡ cut (mark_code mark) text.now }
 {
-    text.split_once(mark.char())
+    text.split_once(char::from(mark))
 }
 
 /// What follows `label` at the beginning of `text`.

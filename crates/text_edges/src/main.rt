@@ -10,7 +10,7 @@ use std::io;
 use survey::entry::read_entry;
 use survey::station::read_station;
 use text::field::{Mark, cut_at};
-use text::number::{read_i32, read_u16};
+use text::number::read_number;
 
 /// Prints what was read, or that the text is broken.
 fn tell<T: Display + Drop>(
@@ -30,25 +30,25 @@ fn tell<T: Display + Drop>(
 fn run_case(rt: &HostRuntime, case: &str) -> anyhow::Result<()> {
     let (reader, text) = cut_at(case, Mark::Space).context("a case is a reader's name and a text")?;
     match reader {
-        "u16" => tell(rt, reader, text, read_u16(text)),
-        "i32" => tell(rt, reader, text, read_i32(text)),
+        "u16" => tell(rt, reader, text, read_number::<u16>(text)),
+        "i32" => tell(rt, reader, text, read_number::<i32>(text)),
         "numbered" => tell(rt, reader, text, NumberedKey::read(text)),
         "named" => tell(rt, reader, text, NamedKey::read(text)),
         "station" => tell(rt, reader, text, read_station(text)),
-        "line" => match read_entry::<NumberedKey>(text) {
-            Some(entry) => tell(rt, reader, text, Some(entry.value)),
-            None => tell(rt, reader, text, read_station("")),
-        },
+        "line" => {
+            let entry = read_entry::<NumberedKey>(text);
+            tell(rt, reader, text, entry.map(|entry| entry.value))
+        }
         _ => Err(anyhow!("no such reader")),
     }
 }
 
 fn run(rt: &HostRuntime) -> anyhow::Result<()> {
     let table = io::read_to_string(rt.alloc(), rt.stdin())?;
-    let mut rest = table.as_str();
-    while let Some((case, after)) = cut_at(rest, Mark::LineFeed) {
-        run_case(rt, case)?;
-        rest = after;
+    for line in table.as_str().split_inclusive('\n') {
+        if let Some(case) = line.strip_suffix('\n') {
+            run_case(rt, case)?;
+        }
     }
     Ok(())
 }

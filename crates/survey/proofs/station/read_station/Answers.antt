@@ -1,7 +1,7 @@
+use Rattle.std.proofs.Common.{Some, rules}
+use Rattle.survey.specs.Station.{at}
 use Rattle.survey.proofs.Stations.{station_exact}
 use Rattle.survey.proofs.station.read_station.Goals as goal
 
-pub returns : goal.returns
-returns c =
-    let v = c.parse_station.ensures in
-    record { value = v; exact = station_exact c.args.text.now c.parse_station.result v }
+pub returns-clause-exact : goal.returns-clause-exact
+returns-clause-exact c = station_exact c.args.text.now (Some (at _ _ _)) (search rules)

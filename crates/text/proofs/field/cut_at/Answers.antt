@@ -14,7 +14,7 @@ mark_ascii Dot = omega arith
 
 pub returns : goal.returns
 returns c =
-    let n = c.char.result in
+    let n = c.from.result in
     let low : n < 128 = omega (arith, mark_ascii c.args.mark) in
     let bs = c.args.text.now in
-    cut_from_split n bs c.split_once.result (split_parts n bs c.split_once.result c.split_once.ensures.cases low) ∙ ap (λ m. cut m bs) c.char.ensures
+    cut_from_split n bs c.split_once.result (split_parts n bs c.split_once.result c.split_once.ensures.cases low) ∙ ap (λ m. cut m bs) c.from.ensures
