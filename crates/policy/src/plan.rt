@@ -1,7 +1,9 @@
 //! What an insertion chooses and tells.
 
+ghost use Rattle.std.specs.Prelude.{◌≡◌};
+
 use ghosts::noted::Noted;
-use machine::report::Part;
+use machine::report::{Part, Report};
 
 /// Resident partition selected for an incoming key.
 #[derive(Clone, Copy, PartialEq, Eq)]
@@ -47,4 +49,18 @@ pub struct Inserted {
     pub place: u16,
     pub joined: Part,
     pub vacancy: Vacancy,
+}
+
+/// What the machine's report tells of an insertion.
+impl From<Inserted> for Report {
+    ghost from_gives = { λ i r. r ≡ record { place = i.place; joined = i.joined; left = i.vacancy.left; chances = i.vacancy.chances } };
+
+    fn from(inserted: Inserted) -> Report {
+        Report {
+            place: inserted.place as usize,
+            joined: inserted.joined,
+            left: inserted.vacancy.left,
+            chances: inserted.vacancy.chances as usize,
+        }
+    }
 }
