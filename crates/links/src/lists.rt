@@ -40,45 +40,35 @@ impl Line {
     pub fn len(&self, list: u8) -> u16
         ensures { result ≡ length (nth list (lists self.now)) }
     {
-        if list < LISTS {
-            self.cells.lens[list as usize]
-        } else {
-            0
-        }
+        self.cells.lens.get(list as usize).copied().unwrap_or(0)
     }
 
     /// The list that holds a node.
     pub fn home(&self, node: u16) -> Option<u8>
         ensures { result ≡ holder node 0 (lists self.now) }
     {
-        if (node as usize) < NODES {
-            let list = self.cells.home[node as usize];
-            if list < LISTS { Some(list) } else { None }
-        } else {
-            None
-        }
+        let list = *self.cells.home.get(node as usize)?;
+        (list < LISTS).then_some(list)
     }
 
     /// The first node of a list.
     pub fn first(&self, list: u8) -> Option<u16>
         ensures { result ≡ first_of (nth list (lists self.now)) }
     {
-        if list < LISTS && self.cells.lens[list as usize] > 0 {
-            Some(self.cells.next[(FIRST + list as u16) as usize])
-        } else {
-            None
+        if self.len(list) == 0 {
+            return None;
         }
+        Some(self.cells.next[(FIRST + list as u16) as usize])
     }
 
     /// The last node of a list.
     pub fn last(&self, list: u8) -> Option<u16>
         ensures { result ≡ last_of (nth list (lists self.now)) }
     {
-        if list < LISTS && self.cells.lens[list as usize] > 0 {
-            Some(self.cells.prev[(FIRST + 1 + list as u16) as usize])
-        } else {
-            None
+        if self.len(list) == 0 {
+            return None;
         }
+        Some(self.cells.prev[(FIRST + 1 + list as u16) as usize])
     }
 
     /// Takes a node from wherever it is, and puts it before the first of a list.
