@@ -7,33 +7,28 @@ use Rattle.queues.specs.declared.slots.Slots.{Slots}
 use Rattle.queues.specs.declared.state.SlotState.{SlotState}
 use Rattle.queues.specs.declared.state.SlotState.TheVariants.{Plain, Young, Used}
 use Rattle.queues.specs.declared.state.Event.TheVariants.{Hit}
-use Rattle.queues.specs.State.{met, seen, is_young}
+use Rattle.queues.specs.State.{met, seen}
 use Rattle.queues.specs.Slots.{list_of, home_in, state_of, age_of}
 use Rattle.queues.specs.Held.{resident, parts_of}
 use Rattle.queues.proofs.Maps.{map_same, map_map}
 use Rattle.links.proofs.Counts.{occurs_append}
 use Rattle.queues.proofs.Sound.{none_in_all}
-use Rattle.queues.proofs.Moved.{Restated, state_here, resident_other}
+use Rattle.queues.proofs.Moved.{Restated, age_kept, state_here, resident_other}
 
 pub seen_hit : (st : SlotState) (a : ℕ) → seen (met st Hit) a ≡ touched (seen st a)
 seen_hit Plain a = refl
 seen_hit Young a = refl
 seen_hit Used a = refl
 
-pub young_hit : (st : SlotState) → is_young (met st Hit) ≡ is_young st
-young_hit Plain = refl
-young_hit Young = refl
-young_hit Used = refl
-
 abbrev hits : ℕ → Resident ℕ → Resident ℕ
 hits p = hit (λ q. eqb q p)
 
-module _ (s t : Slots) (p : ℕ) (low : p < length s.states) (re : Restated s t p (met (state_of s p) Hit)) where
+module _ (s t : Slots) (p : ℕ) (low : p < length s.places) (re : Restated s t p (met (state_of s p) Hit)) where
   each : (q : ℕ) → resident t q ≡ hits p (resident s q)
   each q =
       elim (cases_eq q p) [
         | inl e ↦
-            let a : age_of t p ≡ age_of s p = let i = re.admitted in let j = re.admissions in cc in
+            let a = age_kept s t p (met (state_of s p) Hit) re p in
             let b = state_here s t p (met (state_of s p) Hit) re low in
             let g = seen_hit (state_of s p) (age_of s p) in
             rw (e, eq-eqb p p refl, b, a) (ap (λ (m : Mark). record { item = p; mark = m }) g)
