@@ -18,9 +18,9 @@ returns c =
     let ea = c.admission-admission.ensures ∙ ap (λ (k : ℕ). admission_of (c.args.ghost_hit || (eqb k 0 || (c.has_vacancy-has_vacancy.result && leb k (length (view p).small))))) m.1 in
     record {
       done =
-          done p.capacity q.residents.slots.window c.args.ghost_hit c.has_vacancy-has_vacancy.result c.admission-admission.result c.part_of-joined.result
+          done p.capacity q.residents.slots.window c.args.ghost_hit c.has_vacancy-has_vacancy.result c.admission-admission.result c.from-joined.result
           (view p) (held q.residents) (held c.seat.new.self) (remembered q.ghosts) c.in-Some.place c.vacate-vacancy.result
-          c.has_vacancy-has_vacancy.ensures ea c.part_of-joined.ensures c.in-Some.ensures.answer c.seat.ensures.held
+          c.has_vacancy-has_vacancy.ensures ea c.from-joined.ensures c.in-Some.ensures.answer c.seat.ensures.held
           (λ h.
           let r = small_room c.args.ghost_hit c.has_vacancy-has_vacancy.result (small_limit p.capacity) (length (view p).small) c.admission-admission.result ea h in
           let w = (limits p.capacity c.requires.some).window r in
