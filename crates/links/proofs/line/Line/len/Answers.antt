@@ -16,5 +16,5 @@ returns c =
     let e = got c.get.result s.lens c.args.list c.get.ensures.lookup in
     c.unwrap_or.ensures ∙ (ap (λ o. unwrap_or o 0) c.copied.ensures ∙ (e ∙ (elim (cases_lt c.args.list 4) [
       | inl l ↦ length_row s c.args.list l
-      | inr g ↦ get_or_past s.lens c.args.list 0 (let z = c.args.self.now.sized.3 in omega arith) ∙ sym (ap (λ xs. length xs) (nth_past s c.args.list g))
+      | inr g ↦ get_or_past s.lens c.args.list 0 (let z = c.args.self.now.sized.2 in omega arith) ∙ sym (ap (λ xs. length xs) (nth_past s c.args.list g))
     ])))
