@@ -1,11 +1,9 @@
 -- A node is taken out and put at an end of a list: what each step needs, and what is left of the lists.
-use Rattle.std.proofs.Common.{◌≡◌, ℕ, ◌+◌, ◌<◌, ◌≤◌, cond, eqb, ◌≢◌, [], ◌∷◌, ◌++◌, length, get_or, set, sym, ap, ◌∙◌, subst, inl, inr, arith}
-use Rattle.std.proofs.lemmas.List.{get_or_default, get_or-set_same, get_or-set_other, length-map}
-use Rattle.std.proofs.lemmas.Bool.{cases_eq, cases_lt, eq-eqb, ne_eqb, lt-ltb, le-ltb}
-use Rattle.links.specs.declared.cells.Link.{Link}
+use Rattle.std.proofs.Common.{◌≡◌, ℕ, ◌+◌, ◌<◌, ◌≤◌, cond, eqb, [], ◌∷◌, ◌++◌, get_or, sym, ◌∙◌, subst, arith}
+use Rattle.std.proofs.lemmas.List.{get_or_default, length-map}
+use Rattle.std.proofs.lemmas.Bool.{lt-ltb}
 use Rattle.links.specs.declared.cells.Cells.{Cells}
 use Rattle.links.specs.Rows.{row, rows, without, fronted, backed}
-use Rattle.links.specs.Lists.{rehomed}
 use Rattle.links.specs.Cells.{Sized, link_at, nexts, prevs, detached, attached}
 use Rattle.links.proofs.Paths.{next_is, prev_is, first_among, last_among, first_or}
 use Rattle.links.proofs.Laid.{room, within}
@@ -39,14 +37,6 @@ module _ (c : Cells) (sized : Sized c) (linked : Linked c) (once : Once c) (m k 
     loose : 4 ≤ get_or d.home m 4
     loose = subst (λ (x : Cells). 4 ≤ get_or x.home m 4) (sym ed) (loose_detached c (row (nexts c) c.lens) all m low)
 
-    kept_home : (q : ℕ) → (q ≡ m → ⊥) → get_or d.home q 4 ≡ get_or c.home q 4
-    kept_home q n =
-        ap (λ (x : Cells). get_or x.home q 4) ed
-        ∙ (elim (cases_lt (get_or c.home m 0) 4) [
-          | inl l ↦ let ne : q ≢ m = n in rw (lt-ltb (get_or c.home m 0) 4 l) (get_or-set_other c.home m q 4 4 ne)
-          | inr g ↦ rw (le-ltb (get_or c.home m 0) 4 g)
-        ])
-
     pub room_ok : get_or d.lens k 0 ≤ 512
     room_ok =
         let l = lost.long k small in
@@ -65,18 +55,6 @@ module _ (c : Cells) (sized : Sized c) (linked : Linked c) (once : Once c) (m k 
         rw (← prev_at d.links (513 + k), prev_is (nexts d) (prevs d) (512 + k) us (513 + k) (lost.path k small))
         (within (nexts d) (prevs d) d.home d.lens (λ j. without m (row (nexts c) c.lens j)) lost (last_or (512 + k) us) 512 k (omega arith) small (last_among (512 + k) us))
 
-    -- the node's home changes, and no other
-    rehomed_by : (l : Link) (e : Cells) → e ≡ attached d m l k → (q : ℕ) → get_or e.home q 4 ≡ rehomed m k (λ p. get_or c.home p 4) q
-    rehomed_by l e ee q =
-        let hd : get_or e.home q 4 ≡ get_or (set d.home m k) q 4 = ap (λ (x : Cells). get_or x.home q 4) ee in
-        let ld : length d.home ≡ 512 = lost.home_long in
-        let il : m < length d.home = omega arith in
-        rw (hd, lt-ltb m 512 low, lt-ltb k 4 small)
-        (elim (cases_eq q m) [
-          | inl i ↦ rw (eq-eqb q m i, i) (get_or-set_same d.home m k 4 il)
-          | inr i ↦ let ne : q ≢ m = i in rw (ne_eqb q m i) (get_or-set_other d.home m q k 4 ne ∙ kept_home q i)
-        ])
-
     -- after it was put before the first
     module _ (e : Cells) (ee : e ≡ attached d m (record { prev = 512 + k; next = (link_at d.links (512 + k)).next }) k) where
       fronts : Holds e (λ j. cond (eqb j k) (m ∷ without m (row (nexts c) c.lens k)) (without m (row (nexts c) c.lens j)))
@@ -92,9 +70,6 @@ module _ (c : Cells) (sized : Sized c) (linked : Linked c) (once : Once c) (m k 
 
       pub front_once : Once e
       front_once = once_from e (λ j. cond (eqb j k) (m ∷ without m (row (nexts c) c.lens k)) (without m (row (nexts c) c.lens j))) fronts
-
-      pub front_homes : (q : ℕ) → get_or e.home q 4 ≡ rehomed m k (λ p. get_or c.home p 4) q
-      front_homes = rehomed_by (record { prev = 512 + k; next = (link_at d.links (512 + k)).next }) e ee
 
       pub front_lists : rows (nexts e) e.lens ≡ fronted m k (rows (nexts c) c.lens)
       front_lists =
@@ -117,9 +92,6 @@ module _ (c : Cells) (sized : Sized c) (linked : Linked c) (once : Once c) (m k 
 
       pub back_once : Once e
       back_once = once_from e (λ j. cond (eqb j k) (without m (row (nexts c) c.lens k) ++ m ∷ []) (without m (row (nexts c) c.lens j))) backs
-
-      pub back_homes : (q : ℕ) → get_or e.home q 4 ≡ rehomed m k (λ p. get_or c.home p 4) q
-      back_homes = rehomed_by (record { prev = (link_at d.links (513 + k)).prev; next = 513 + k }) e ee
 
       pub back_lists : rows (nexts e) e.lens ≡ backed m k (rows (nexts c) c.lens)
       back_lists =

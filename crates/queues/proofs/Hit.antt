@@ -1,6 +1,7 @@
 -- A use of a place changes one mark, and nothing else that shows.
 use Rattle.std.proofs.Common.{◌≡◌, ℕ, ◌<◌, ◌≤◌, eqb, List, ◌++◌, map, length, set, sym, refl, ap, ◌∙◌, inl, inr, arith, length-set}
 use Rattle.std.proofs.lemmas.Bool.{cases_eq, eq-eqb, ne_eqb}
+use Rattle.std.proofs.lemmas.Simd.{map-map}
 use Rattle.links.specs.Rows.{occurs}
 use Rattle.machine.specs.Replacement.{Mark, Resident, hit, uses, touched}
 use Rattle.queues.specs.declared.slots.Slots.{Slots}
@@ -11,7 +12,7 @@ use Rattle.queues.specs.declared.state.Event.TheVariants.{Hit}
 use Rattle.queues.specs.State.{met, seen, is_young, with_state}
 use Rattle.queues.specs.Slots.{list_of, home_in, slot_of, state_of, age_of}
 use Rattle.queues.specs.Held.{resident, parts_of}
-use Rattle.queues.proofs.Maps.{map_same, map_map}
+use Rattle.queues.proofs.Maps.{map_same}
 use Rattle.links.proofs.Counts.{occurs_append}
 use Rattle.queues.proofs.Sound.{Sound, none_in_all}
 use Rattle.queues.proofs.Moved.{Restated, age_kept, state_here, state_other, resident_other, restated, with_line}
@@ -42,7 +43,7 @@ module _ (s t : Slots) (p : ℕ) (low : p < length s.places) (re : Restated s t 
       ]
 
   marks : (xs : List ℕ) → map (resident t) xs ≡ map (hits p) (map (resident s) xs)
-  marks xs = map_same (resident t) (λ q. hits p (resident s q)) xs (λ q o. each q) ∙ sym (map_map (resident s) (hits p) xs)
+  marks xs = map_same (resident t) (λ q. hits p (resident s q)) xs (λ q o. each q) ∙ sym (map-map (hits p) (resident s) xs)
 
   pub hit_parts : t.line ≡ s.line → parts_of t ≡ uses (λ q. eqb q p) (parts_of s)
   hit_parts l =
@@ -76,7 +77,7 @@ module _ (s : Slots) (p : ℕ) (far : 4 ≤ home_in s p) where
   unhit xs z =
       map_same (resident s) (λ q. hits p (resident s q)) xs
       (λ q o. rw (ne_eqb q p (λ e. let k : occurs p xs ≡ occurs q xs = ap (λ (x : ℕ). occurs x xs) (sym e) in omega arith)))
-      ∙ sym (map_map (resident s) (hits p) xs)
+      ∙ sym (map-map (hits p) (resident s) xs)
 
   pub unhit_parts : parts_of s ≡ uses (λ q. eqb q p) (parts_of s)
   unhit_parts =

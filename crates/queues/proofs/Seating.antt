@@ -3,6 +3,7 @@ use Rattle.std.proofs.Common.{◌≡◌, ℕ, suc, ◌+◌, ◌<◌, ◌≤◌, 
 use Rattle.std.proofs.lemmas.List.{get_or-set_same, get_or-set_other, append_assoc}
 use Rattle.std.proofs.lemmas.Bool.{cases_eq, cases_lt, eq-eqb, ne_eqb, lt-ltb, le-ltb, le-leb, lt-leb}
 use Rattle.std.proofs.lemmas.Bool.Decides.{when_true, when_false}
+use Rattle.std.proofs.lemmas.Simd.{map-map}
 use Rattle.links.specs.Lists.{lists}
 use Rattle.links.specs.Rows.{occurs, without, pushed_front, nth, last_of}
 use Rattle.links.proofs.Counts.{occurs_same, occurs_other, occurs_append, without_absent, without_first, without_last}
@@ -18,7 +19,7 @@ use Rattle.queues.specs.Slots.{list_of, home_in, slot_of, state_of, age_of, risi
 use Rattle.queues.specs.Seats.{Joined, Closed, closing}
 use Rattle.queues.specs.Held.{resident, parts_of}
 use Rattle.queues.specs.Steps.{seated_top}
-use Rattle.queues.proofs.Maps.{map_same, map_map}
+use Rattle.queues.proofs.Maps.{map_same}
 use Rattle.queues.proofs.Sound.{Sound, in_list, out_of_list, home_from, at_most_once, home_low, home_opened, one_in_all, front_long, all_long}
 use Rattle.queues.proofs.Moved.{Restated, fronted_sound, home_other, home_here as home_moved, state_here, resident_other, age_kept}
 use Rattle.queues.proofs.Ages.{since_now, since_next, rising_next, rising_last}
@@ -209,7 +210,7 @@ module _ (s t : Slots) (w : ℕ) (sound : Sound w s) (small : w ≤ 255) (some :
     seat_parts u a b c d here near far =
         let m = map_same (resident u) (λ q. marked (aged w (resident s q).mark) (resident s q)) (list_of 0 s ++ list_of 1 s)
         (λ q o. near q (small_home s q (let k = occurs_append q (list_of 0 s) (list_of 1 s) in omega arith))) in
-        let n = map_map (resident s) (λ r. marked (aged w r.mark) r) (list_of 0 s ++ list_of 1 s) in
+        let n = map-map (λ r. marked (aged w r.mark) r) (resident s) (list_of 0 s ++ list_of 1 s) in
         let f = map_same (resident u) (resident s) (list_of 2 s) (λ q o. far q (home_from s q 2 (omega arith) o)) in
         rw (a, b, c, d, top, here, m, n, f)
 

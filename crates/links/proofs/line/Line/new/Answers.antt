@@ -22,5 +22,5 @@ invariant_of-result c = record {
   once = λ p. four _ (none p 0 (omega arith)) (none p 1 (omega arith)) (none p 2 (omega arith)) (none p 3 (omega arith));
 }
 
-pub returns : goal.returns
-returns c = record { lists = refl; homes = nowhere }
+pub returns-clause-homes : goal.returns-clause-homes
+returns-clause-homes c = nowhere

@@ -39,12 +39,12 @@ invariant_of-self-in-Main c =
     (sound_of c.args.self.now) (home_opened s c.args.self.now.listed p (omega arith)) c.push_back.ensures.homes refl c.push_back.ensures.lists)
     c.args.self.now.«open»
 
-pub returns-in-Small : goal.returns-in-Small
-returns-in-Small c =
+pub returns-in-Small-clause-held : goal.returns-in-Small-clause-held
+returns-in-Small-clause-held c =
     let r = c.args.self.now in
     let w = split_first (list_of 3 r.slots) c.in_ok-place.place c.in_ok-place.ensures in
     let k = seated r.slots c.join_small.new.slots c.close_window.new.slots (sound_of r) r.«open».1 r.«open».0 c.in_ok-place.place w.rest w.is c.join_small.ensures c.close_window.ensures in
-    record { answer = c.in_ok-place.ensures; held = rw c.in-Small.is k.1; window = k.2 }
+    rw c.in-Small.is k.1
 
 pub returns-in-Main-clause-held : goal.returns-in-Main-clause-held
 returns-in-Main-clause-held c =

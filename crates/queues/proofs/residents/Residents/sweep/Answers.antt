@@ -18,14 +18,6 @@ overflow_add-chances c =
     let o = opened_low s c.args.self.now.listed in
     omega arith
 
-pub loop-place-smaller : goal.loop-place-smaller
-loop-place-smaller c =
-    let h = at_hand (held c.loop-place.self).main _ _ c.in_ok-place.ensures in
-    let u : c.in_ok-place.used ≡ true = search rules in
-    let t = turn_parts (held c.args.self.now) (held c.loop-place.self) c.loop-place.chances c.loop-place.invariant.1 _ _ h u (held c.pass.new.self) c.pass.ensures.held in
-    let l = t.0 in
-    omega arith
-
 pub loop-place-preserved : goal.loop-place-preserved
 loop-place-preserved c =
     let h = at_hand (held c.loop-place.self).main _ _ c.in_ok-place.ensures in
