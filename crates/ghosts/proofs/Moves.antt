@@ -1,15 +1,16 @@
 -- A node goes to the front of the remembered or of the spare.
-use Rattle.std.proofs.Common.{◌≡◌, ℕ, zero, suc, ◌+◌, ◌<◌, ◌≤◌, Bool, true, false, List, [], ◌∷◌, ◌++◌, length, take, Some, None, sym, refl, ap, ◌∙◌, inl, inr, arith}
+use Rattle.std.proofs.Common.{◌≡◌, ℕ, zero, suc, ◌+◌, ◌<◌, ◌≤◌, max, Bool, true, false, List, [], ◌∷◌, ◌++◌, length, take, Some, sym, refl, ap, ◌∙◌, subst, inl, inr, arith}
 use Rattle.std.proofs.lemmas.List.{take_all, take_at, length-append}
 use Rattle.std.proofs.lemmas.Bool.{cases_eq, cases_lt, lt-ltb, ne_eqb, le-leb, lt-leb}
 use Rattle.links.specs.declared.line.Line.{Line}
 use Rattle.links.specs.Lists.{lists, home_of, rehomed}
 use Rattle.links.specs.Rows.{occurs, without, fronted, pushed_front, nth, first_of, last_of}
 use Rattle.links.proofs.Counts.{occurs_same, occurs_append, length_without, without_absent, without_last}
-use Rattle.links.proofs.Members.{stands, lacks, home_is, no_more}
-use Rattle.links.proofs.Ends.{split_last, split_first, no_first}
+use Rattle.links.proofs.Members.{stands, lacks, home_is, no_more, low_node}
+use Rattle.links.proofs.Ends.{split_last, split_first}
 use Rattle.ghosts.specs.declared.notes.Notes.{Notes}
-use Rattle.ghosts.specs.Notes.{note_list, Counted, Unopened, Within}
+use Rattle.ghosts.specs.declared.noted.Noted.{Noted}
+use Rattle.ghosts.specs.Notes.{note_list, Counted, Unopened, Within, Chosen}
 use Rattle.ghosts.specs.Remembered.{Pushed, holds_node}
 
 abbrev pub relinked : Notes → Line → ℕ → Notes
@@ -18,6 +19,10 @@ relinked n l opened = record { line = l; opened = opened; capacity = n.capacity 
 -- what the ghost fields say
 abbrev pub Ghosts : Notes → Type 0
 Ghosts n = record { counted : Counted n; unopened : Unopened n; within : Within n }
+
+-- a node that has a home was opened
+pub opened_before : (n : Notes) → Unopened n → (p : ℕ) → home_of n.line p < 4 → p < n.opened
+opened_before n unopened p h = elim (cases_lt p n.opened) [ inl i ↦ i | inr i ↦ let u = unopened p i in absurd (omega arith) ]
 
 module _ (n : Notes) (counted : Counted n) (unopened : Unopened n) (within : Within n) (l : Line) (p : ℕ) where
   module _ (k : ℕ) (two : k < 2) (low : p < 512) (to : lists l ≡ fronted p k (lists n.line)) (homes : (q : ℕ) → home_of l q ≡ rehomed p k (home_of n.line) q) where
@@ -48,7 +53,7 @@ module _ (n : Notes) (counted : Counted n) (unopened : Unopened n) (within : Wit
           | inr e ↦ let a = lacks n.line p 0 (omega arith) e in let b = stands n.line p 1 (omega arith) (omega arith) in omega arith
         ] in
         let a = longer in
-        let opened : p < n.opened = elim (cases_lt p n.opened) [ inl i ↦ i | inr i ↦ let u = unopened p i in absurd (omega arith) ] in
+        let opened = opened_before n unopened p (omega arith) in
         record { counted = omega arith; unopened = λ q i. let u = unopened q i in let o = others q (λ e. omega arith) in omega arith; within = within }
 
     -- the next node is opened
@@ -137,5 +142,52 @@ oldest_home n p e =
     let o = occurs_same p [] in
     home_is n.line p 0 (omega arith) (omega arith)
 
-pub no_spare : (n : Notes) → None ≡ first_of (note_list 1 n) → length (note_list 1 n) ≡ 0
-no_spare n e = ap (λ (xs : List ℕ). length xs) (no_first (note_list 1 n) e)
+-- the node that a push chooses is made the newest
+module _ (n : Notes) (counted : Counted n) (unopened : Unopened n) (within : Within n) (x : Noted) (chosen : Chosen n (Some x)) where
+  pub chosen_low : x.node < 512
+  chosen_low =
+      elim chosen [
+        | inl s ↦ let h = (spare_home n x.node s.0).0 in low_node n.line x.node (omega arith)
+        | inr (inl u) ↦ let w = within.1 in let i = u.0 in let j = u.1 in omega arith
+        | inr (inr o) ↦ let h = oldest_home n x.node o.0 in low_node n.line x.node (omega arith)
+      ]
+
+  module _ (l : Line) (to : lists l ≡ fronted x.node 0 (lists n.line)) (homes : (q : ℕ) → home_of l q ≡ rehomed x.node 0 (home_of n.line) q) where
+    pub newest_ghosts : (m : ℕ) → m ≡ max n.opened (x.node + 1) → Ghosts (relinked n l m)
+    newest_ghosts m e =
+        elim chosen [
+          | inl s ↦
+              let h = (spare_home n x.node s.0).0 in
+              let b = opened_before n unopened x.node (omega arith) in
+              subst (λ (k : ℕ). Ghosts (relinked n l k)) (omega arith) (moved n counted unopened within l x.node 0 (omega arith) chosen_low to homes (omega arith))
+          | inr (inl u) ↦
+              let i = u.0 in
+              subst (λ (k : ℕ). Ghosts (relinked n l k)) (omega arith) (fresh n counted unopened within l x.node 0 (omega arith) chosen_low to homes u.0 u.1)
+          | inr (inr o) ↦
+              let h = oldest_home n x.node o.0 in
+              let b = opened_before n unopened x.node (omega arith) in
+              subst (λ (k : ℕ). Ghosts (relinked n l k)) (omega arith) (moved n counted unopened within l x.node 0 (omega arith) chosen_low to homes (omega arith))
+        ]
+
+    told : (f : Bool) → x.forgot ≡ f → Pushed n.capacity (note_list 0 n) (nth 0 (lists l)) (record { node = x.node; forgot = f }) → Pushed n.capacity (note_list 0 n) (nth 0 (lists l)) x
+    told f e h = subst (λ (g : Bool). Pushed n.capacity (note_list 0 n) (nth 0 (lists l)) (record { node = x.node; forgot = g })) (sym e) h
+
+    pub newest_pushed : Pushed n.capacity (note_list 0 n) (nth 0 (lists l)) x
+    newest_pushed =
+        elim chosen [
+          | inl s ↦
+              let h = spare_home n x.node s.0 in
+              let i = h.0 in
+              let k = h.1 in
+              let b = within.0 in
+              told _ s.1
+              (pushed_new n counted unopened within l x.node chosen_low to (λ e. omega arith) (omega arith))
+          | inr (inl u) ↦
+              let f = unopened x.node (let i = u.0 in omega arith) in
+              let i = u.1 in
+              told _ u.2
+              (pushed_new n counted unopened within l x.node chosen_low to (λ e. omega arith) (omega arith))
+          | inr (inr o) ↦
+              told _ o.2
+              (pushed_old n counted unopened within l x.node chosen_low to o.0 o.1)
+        ]

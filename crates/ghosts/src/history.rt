@@ -3,15 +3,19 @@
 ghost use Rattle.std.specs.Prelude.{◌≡◌, ℕ, ◌≤◌, min, [], length, MatchOption};
 ghost use Rattle.links.specs.Rows.{without};
 ghost use Rattle.ghosts.specs.Remembered.{remembered, holds_node, Pushed};
+ghost use Rattle.ghosts.specs.Notes.{Chosen};
 
 use crate::noted::Noted;
 use crate::notes::Notes;
 use crate::queue::GhostQueue;
 use links::Line;
 
-const REMEMBERED: u8 = 0;
-
-const SPARE: u8 = 1;
+/// The lists of the line; each is told to the line by its number.
+#[derive(Clone, Copy)]
+enum List {
+    Remembered,
+    Spare,
+}
 
 impl GhostQueue {
     /// An empty history of at most so many keys, and at most 512.
@@ -32,17 +36,14 @@ impl GhostQueue {
     pub fn len(&self) -> u16
         ensures { result ≡ length (remembered self.now) }
     {
-        self.notes.line.len(REMEMBERED)
+        self.notes.line.len(List::Remembered as u8)
     }
 
     /// Whether a node remembers a key.
     pub fn holds(&self, node: u16) -> bool
         ensures { result ≡ holds_node node (remembered self.now) }
     {
-        match self.notes.line.home(node) {
-            Some(list) => list == REMEMBERED,
-            None => false,
-        }
+        self.notes.line.home(node) == Some(List::Remembered as u8)
     }
 
     /// Forgets the key of a node; false if it has none.
@@ -53,7 +54,7 @@ impl GhostQueue {
     {
         let held = self.holds(node);
         if held {
-            self.notes.line.push_front(node, SPARE);
+            self.notes.line.push_front(node, List::Spare as u8);
         }
         held
     }
@@ -64,24 +65,27 @@ impl GhostQueue {
         ensures pushed { MatchOption result (self.old.notes.capacity ≡ 0) (λ n. Pushed self.old.notes.capacity (remembered self.old) (remembered self.new) n) }
         ensures capacity { self.new.notes.capacity ≡ self.old.notes.capacity }
     {
-        if let Some(node) = self.notes.line.first(SPARE) {
-            self.notes.line.push_front(node, REMEMBERED);
+        let noted = self.next_noted()?;
+        self.notes
+            .line
+            .push_front(noted.node, List::Remembered as u8);
+        // A node that was never opened counts as opened.
+        self.notes.opened = self.notes.opened.max(noted.node + 1);
+        Some(noted)
+    }
+
+    /// The node that a push makes the newest.
+    fn next_noted(&self) -> Option<Noted>
+        ensures { Chosen self.now.notes result }
+    {
+        let unopened = (self.notes.opened < self.notes.capacity).then_some(self.notes.opened);
+        if let Some(node) = self.notes.line.first(List::Spare as u8).or(unopened) {
             return Some(Noted {
                 node,
                 forgot: false,
             });
         }
-        if self.notes.opened < self.notes.capacity {
-            let node = self.notes.opened;
-            self.notes.line.push_front(node, REMEMBERED);
-            self.notes.opened += 1;
-            return Some(Noted {
-                node,
-                forgot: false,
-            });
-        }
-        let node = self.notes.line.last(REMEMBERED)?;
-        self.notes.line.push_front(node, REMEMBERED);
+        let node = self.notes.line.last(List::Remembered as u8)?;
         Some(Noted { node, forgot: true })
     }
 }

@@ -32,5 +32,5 @@ module _ (l : Line) (p : ℕ) where
   low_node h =
       elim (cases_lt p 512) [
         | inl i ↦ i
-        | inr i ↦ let z = l.sized.2 in let e = get_or_past l.cells.home p 4 (omega arith) in absurd (omega arith)
+        | inr i ↦ let z = l.sized.1 in let e = get_or_past l.cells.home p 4 (omega arith) in absurd (omega arith)
       ]

@@ -2,9 +2,10 @@
 use Rattle.std.specs.Prelude.{ℕ, cond, ◌&&◌, List, ◌==◌, nat_lt, slice_index_or}
 use Rattle.links.specs.declared.line.Line.{Line}
 use Rattle.links.specs.Rows.{rows}
+use Rattle.links.specs.Cells.{nexts}
 
 abbrev pub lists : Line → List (List ℕ)
-lists l = rows l.cells.next l.cells.lens
+lists l = rows (nexts l.cells) l.cells.lens
 
 -- the number of the list that holds a node, 4 or above for a node in none
 abbrev pub home_of : Line → ℕ → ℕ

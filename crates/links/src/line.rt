@@ -1,7 +1,7 @@
 //! A line whose lists hold each node at most once.
 
 ghost use Rattle.std.specs.Prelude.{◌≡◌, ℕ, ◌+◌, ◌<◌, true, if◌then◌else◌, nat_eq, slice_index_or};
-ghost use Rattle.links.specs.Cells.{Sized};
+ghost use Rattle.links.specs.Cells.{Sized, nexts, prevs};
 ghost use Rattle.links.specs.Rows.{row, leads, occurs};
 
 use crate::cells::Cells;
@@ -11,6 +11,6 @@ use crate::cells::Cells;
 pub struct Line {
     pub(crate) cells: Cells,
     ghost sized: { Sized cells },
-    ghost linked: { (k : ℕ) → k < 4 → leads cells.next cells.prev (512 + k) (row cells.next cells.lens k) (513 + k) ≡ true },
-    ghost once: { (p k : ℕ) → k < 4 → occurs p (row cells.next cells.lens k) ≡ (if nat_eq (slice_index_or cells.home p 4) k then 1 else 0) },
+    ghost linked: { (k : ℕ) → k < 4 → leads (nexts cells) (prevs cells) (512 + k) (row (nexts cells) cells.lens k) (513 + k) ≡ true },
+    ghost once: { (p k : ℕ) → k < 4 → occurs p (row (nexts cells) cells.lens k) ≡ (if nat_eq (slice_index_or cells.home p 4) k then 1 else 0) },
 }

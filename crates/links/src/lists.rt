@@ -4,7 +4,7 @@ ghost use Rattle.std.specs.Prelude.{◌≡◌, ℕ, ◌<◌, ◌≤◌, [], ◌�
 ghost use Rattle.links.specs.Rows.{fronted, backed, holder, first_of, last_of, nth};
 ghost use Rattle.links.specs.Lists.{lists, home_of, rehomed};
 
-use crate::cells::{Cells, LISTS, NODES, attach, detach};
+use crate::cells::{Cells, LISTS, Link, NODES, attach, detach};
 use crate::line::Line;
 
 /// The sentinel before list 0.
@@ -16,20 +16,18 @@ impl Line {
         ensures lists { lists result ≡ [] ∷ [] ∷ [] ∷ [] ∷ [] }
         ensures homes { (q : ℕ) → home_of result q ≡ 4 }
     {
-        let mut prev = [0; 517];
-        let mut next = [0; 517];
-        next[512] = 513;
-        next[513] = 514;
-        next[514] = 515;
-        next[515] = 516;
-        prev[513] = 512;
-        prev[514] = 513;
-        prev[515] = 514;
-        prev[516] = 515;
+        let mut links = [Link { prev: 0, next: 0 }; 517];
+        links[512].next = 513;
+        links[513].next = 514;
+        links[514].next = 515;
+        links[515].next = 516;
+        links[513].prev = 512;
+        links[514].prev = 513;
+        links[515].prev = 514;
+        links[516].prev = 515;
         Line {
             cells: Cells {
-                prev,
-                next,
+                links,
                 home: [LISTS; 512],
                 lens: [0; 4],
             },
@@ -40,45 +38,35 @@ impl Line {
     pub fn len(&self, list: u8) -> u16
         ensures { result ≡ length (nth list (lists self.now)) }
     {
-        if list < LISTS {
-            self.cells.lens[list as usize]
-        } else {
-            0
-        }
+        self.cells.lens.get(list as usize).copied().unwrap_or(0)
     }
 
     /// The list that holds a node.
     pub fn home(&self, node: u16) -> Option<u8>
         ensures { result ≡ holder node 0 (lists self.now) }
     {
-        if (node as usize) < NODES {
-            let list = self.cells.home[node as usize];
-            if list < LISTS { Some(list) } else { None }
-        } else {
-            None
-        }
+        let list = *self.cells.home.get(node as usize)?;
+        (list < LISTS).then_some(list)
     }
 
     /// The first node of a list.
     pub fn first(&self, list: u8) -> Option<u16>
         ensures { result ≡ first_of (nth list (lists self.now)) }
     {
-        if list < LISTS && self.cells.lens[list as usize] > 0 {
-            Some(self.cells.next[(FIRST + list as u16) as usize])
-        } else {
-            None
+        if self.len(list) == 0 {
+            return None;
         }
+        Some(self.cells.links[(FIRST + list as u16) as usize].next)
     }
 
     /// The last node of a list.
     pub fn last(&self, list: u8) -> Option<u16>
         ensures { result ≡ last_of (nth list (lists self.now)) }
     {
-        if list < LISTS && self.cells.lens[list as usize] > 0 {
-            Some(self.cells.prev[(FIRST + 1 + list as u16) as usize])
-        } else {
-            None
+        if self.len(list) == 0 {
+            return None;
         }
+        Some(self.cells.links[(FIRST + 1 + list as u16) as usize].prev)
     }
 
     /// Takes a node from wherever it is, and puts it before the first of a list.
@@ -88,9 +76,9 @@ impl Line {
     {
         if (node as usize) < NODES && list < LISTS {
             detach(&mut self.cells, node);
-            let before = FIRST + list as u16;
-            let after = self.cells.next[before as usize];
-            attach(&mut self.cells, node, before, after, list);
+            let prev = FIRST + list as u16;
+            let next = self.cells.links[prev as usize].next;
+            attach(&mut self.cells, node, Link { prev, next }, list);
         }
     }
 
@@ -101,9 +89,9 @@ impl Line {
     {
         if (node as usize) < NODES && list < LISTS {
             detach(&mut self.cells, node);
-            let after = FIRST + 1 + list as u16;
-            let before = self.cells.prev[after as usize];
-            attach(&mut self.cells, node, before, after, list);
+            let next = FIRST + 1 + list as u16;
+            let prev = self.cells.links[next as usize].prev;
+            attach(&mut self.cells, node, Link { prev, next }, list);
         }
     }
 }

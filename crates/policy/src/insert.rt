@@ -3,7 +3,7 @@
 ghost use Rattle.std.specs.Prelude.{◌≡◌, ℕ, ◌≤◌, ◌&&◌, ◌||◌, length, ◌==◌, nat_le};
 ghost use Rattle.machine.specs.Replacement.{vacancy, plan, carried_out, main_full, is_tail_used, ended};
 ghost use Rattle.policy.specs.View.{view, Limited, Kept};
-ghost use Rattle.policy.specs.Insertion.{Same, Freed, Told, Ready, Done, node_of, is_main, admission_of, part_of};
+ghost use Rattle.policy.specs.Insertion.{Same, Freed, Told, Ready, Done, node_of, is_main, admission_of};
 
 use crate::makeup::Core;
 use crate::plan::{Admission, Inserted, Vacancy};
@@ -50,16 +50,6 @@ fn vacate(core: &mut Core, admission: Admission, has_vacancy: bool) -> Vacancy
     }
 }
 
-/// The part that an admission leads to.
-fn part_of(admission: Admission) -> Part
-    ensures { result ≡ part_of admission }
-{
-    match admission {
-        Admission::Small => Part::Small,
-        Admission::Main => Part::Main,
-    }
-}
-
 /// Brings in a newcomer, which Ghost remembered or not.
 pub(crate) fn insert_in(core: &mut Core, ghost_hit: bool) -> Inserted
     requires limited { Limited core.old }
@@ -71,13 +61,13 @@ pub(crate) fn insert_in(core: &mut Core, ghost_hit: bool) -> Inserted
     let has_vacancy = has_vacancy(core);
     let admission = admission(core, ghost_hit, has_vacancy);
     let vacancy = vacate(core, admission, has_vacancy);
-    let joined = part_of(admission);
-    match core.residents.seat(joined) {
-        Some(place) => Inserted {
-            place,
-            joined,
-            vacancy,
-        },
-        None => unreachable(),
+    let joined = Part::from(admission);
+    let Some(place) = core.residents.seat(joined) else {
+        unreachable!();
+    };
+    Inserted {
+        place,
+        joined,
+        vacancy,
     }
 }

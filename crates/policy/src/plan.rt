@@ -1,6 +1,7 @@
 //! What an insertion chooses and tells.
 
 ghost use Rattle.std.specs.Prelude.{◌≡◌};
+ghost use Rattle.policy.specs.Insertion.{part_of};
 
 use ghosts::noted::Noted;
 use machine::report::{Part, Report};
@@ -12,6 +13,18 @@ pub enum Admission {
     Small,
     /// Admit immediately before the hand of Main.
     Main,
+}
+
+/// The part that an admission leads to.
+impl From<Admission> for Part {
+    ghost from_gives = { λ a p. p ≡ part_of a };
+
+    fn from(admission: Admission) -> Part {
+        match admission {
+            Admission::Small => Part::Small,
+            Admission::Main => Part::Main,
+        }
+    }
 }
 
 /// Storage action selected for one insertion.

@@ -16,11 +16,8 @@ pub(crate) fn find_free(core: &mut Core)
     ensures view { view core.new ≡ topped (view core.old).free (view core.old) }
     ensures same { Same core.old core.new }
 {
-    match core.residents.top() {
-        Some(_) => {}
-        None => {
-            core.residents.unlock();
-        }
+    if core.residents.top().is_none() {
+        core.residents.unlock();
     }
 }
 

@@ -35,16 +35,16 @@ pub(crate) fn replaced(core: &mut Core) -> Vacancy
     ensures told { Told (view core.old).remembered result.left result.noted }
     ensures same { Same core.old core.new }
 {
-    match evict_main(core) {
-        Some(selected) => Vacancy {
-            plan: InsertionPlan::Evict {
-                victim: selected.victim,
-            },
-            left: Some(Joined::Main),
-            chances: selected.chances,
-            noted: None,
+    let Some(selected) = evict_main(core) else {
+        unreachable!();
+    };
+    Vacancy {
+        plan: InsertionPlan::Evict {
+            victim: selected.victim,
         },
-        None => unreachable(),
+        left: Some(Joined::Main),
+        chances: selected.chances,
+        noted: None,
     }
 }
 
@@ -56,20 +56,20 @@ pub(crate) fn promoted(core: &mut Core) -> Vacancy
     ensures told { Told (view core.old).remembered result.left result.noted }
     ensures same { Same core.old core.new }
 {
-    match core.residents.tail() {
-        Some(tail) => match promote_then_evict(core) {
-            Some(selected) => Vacancy {
-                plan: InsertionPlan::PromoteThenEvict {
-                    promoted: tail,
-                    victim: selected.victim,
-                },
-                left: Some(Joined::Main),
-                chances: selected.chances,
-                noted: None,
-            },
-            None => unreachable(),
+    let Some(promoted) = core.residents.tail() else {
+        unreachable!();
+    };
+    let Some(selected) = promote_then_evict(core) else {
+        unreachable!();
+    };
+    Vacancy {
+        plan: InsertionPlan::PromoteThenEvict {
+            promoted,
+            victim: selected.victim,
         },
-        None => unreachable(),
+        left: Some(Joined::Main),
+        chances: selected.chances,
+        noted: None,
     }
 }
 
@@ -82,16 +82,16 @@ pub(crate) fn demoted(core: &mut Core) -> Vacancy
     ensures told { Told (view core.old).remembered result.left result.noted }
     ensures same { Same core.old core.new }
 {
-    match core.residents.tail() {
-        Some(tail) => match evict_tail(core) {
-            Some(noted) => Vacancy {
-                plan: InsertionPlan::Evict { victim: tail },
-                left: Some(Joined::Small),
-                chances: 0,
-                noted: Some(noted),
-            },
-            None => unreachable(),
-        },
-        None => unreachable(),
+    let Some(victim) = core.residents.tail() else {
+        unreachable!();
+    };
+    let Some(noted) = evict_tail(core) else {
+        unreachable!();
+    };
+    Vacancy {
+        plan: InsertionPlan::Evict { victim },
+        left: Some(Joined::Small),
+        chances: 0,
+        noted: Some(noted),
     }
 }

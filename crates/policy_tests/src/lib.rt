@@ -10,15 +10,15 @@ mod tests {
     #[test]
     fn size_for_512_places(rt: HostRuntime) -> Result<(), Fail> {
         println!(rt; "policy for 512 places: {} bytes", size_of::<Policy>())?;
-        assert!(rt; size_of::<Policy>() == 6216);
+        assert_eq!(rt; size_of::<Policy>(), 6216);
         Ok(())
     }
 
     #[test]
     fn capacities(rt: HostRuntime) {
-        assert!(rt; Policy::open(512).capacity() == 512);
-        assert!(rt; Policy::open(513).capacity() == 0);
-        assert!(rt; Policy::open(0).capacity() == 0);
+        assert_eq!(rt; Policy::open(512).capacity(), 512);
+        assert_eq!(rt; Policy::open(513).capacity(), 0);
+        assert_eq!(rt; Policy::open(0).capacity(), 0);
     }
 
     #[test]
@@ -28,26 +28,22 @@ mod tests {
         assert!(rt; !policy.remove(3));
         assert!(rt; !policy.discard(3));
         assert!(rt; !policy.remembers(9));
-        let free = match policy.location(3) {
-            Location::Free => true,
-            Location::Small | Location::Main => false,
-        };
-        assert!(rt; free);
+        assert!(rt; policy.location(3) == Location::Free);
     }
 
     #[test]
     fn insertions_of_two_places(rt: HostRuntime) -> Result<(), Fail> {
         let mut policy = Policy::open(2);
-        assert!(rt; policy.insert(false).ok_or("refused")?.place == 0);
-        assert!(rt; policy.insert(false).ok_or("refused")?.place == 1);
+        assert_eq!(rt; policy.insert(false).ok_or("refused")?.place, 0);
+        assert_eq!(rt; policy.insert(false).ok_or("refused")?.place, 1);
         policy.hit(1);
         let third = policy.insert(false).ok_or("refused")?;
-        assert!(rt; third.place == 0);
+        assert_eq!(rt; third.place, 0);
         assert!(rt; policy.remembers(third.vacancy.noted.ok_or("not noted")?.node));
         assert!(rt; policy.discard(0));
         let fourth = policy.insert(true).ok_or("refused")?;
-        assert!(rt; fourth.place == 1);
-        assert!(rt; fourth.vacancy.chances == 1);
+        assert_eq!(rt; fourth.place, 1);
+        assert_eq!(rt; fourth.vacancy.chances, 1);
         Ok(())
     }
 }

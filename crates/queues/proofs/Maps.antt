@@ -21,10 +21,6 @@ map_same f g (x ∷ xs) h =
     let rest = map_same f g xs (λ q o. h q (omega arith)) in
     cc
 
-pub map_map : {B C : Type 0} (f : ℕ → B) (g : B → C) (xs : List ℕ) → map g (map f xs) ≡ map (λ q. g (f q)) xs
-map_map f g [] = refl
-map_map f g (x ∷ xs) = let ih = map_map f g xs in cc
-
 module _ (f : ℕ → Resident ℕ) (own : (q : ℕ) → (f q).item ≡ q) (p : ℕ) where
   pub kept_without : (xs : List ℕ) → filter (λ r. not (eqb r.item p)) (map f xs) ≡ map f (without p xs)
   kept_without [] = refl

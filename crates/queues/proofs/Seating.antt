@@ -3,21 +3,23 @@ use Rattle.std.proofs.Common.{◌≡◌, ℕ, suc, ◌+◌, ◌<◌, ◌≤◌, 
 use Rattle.std.proofs.lemmas.List.{get_or-set_same, get_or-set_other, append_assoc}
 use Rattle.std.proofs.lemmas.Bool.{cases_eq, cases_lt, eq-eqb, ne_eqb, lt-ltb, le-ltb, le-leb, lt-leb}
 use Rattle.std.proofs.lemmas.Bool.Decides.{when_true, when_false}
+use Rattle.std.proofs.lemmas.Simd.{map-map}
 use Rattle.links.specs.Lists.{lists}
 use Rattle.links.specs.Rows.{occurs, without, pushed_front, nth, last_of}
 use Rattle.links.proofs.Counts.{occurs_same, occurs_other, occurs_append, without_absent, without_first, without_last}
 use Rattle.machine.specs.declared.report.Part.TheVariants.{Small}
 use Rattle.machine.specs.Replacement.{Mark, young, marked, aged}
 use Rattle.queues.specs.declared.slots.Slots.{Slots}
+use Rattle.queues.specs.declared.slots.ResidentSlot.{ResidentSlot}
 use Rattle.queues.specs.declared.state.SlotState.{SlotState}
 use Rattle.queues.specs.declared.state.SlotState.TheVariants.{Plain, Young, Used}
 use Rattle.queues.specs.declared.state.Event.TheVariants.{WindowClosed}
 use Rattle.queues.specs.State.{met, seen, is_young}
-use Rattle.queues.specs.Slots.{list_of, home_in, state_of, age_of, rising}
+use Rattle.queues.specs.Slots.{list_of, home_in, slot_of, state_of, age_of, rising}
 use Rattle.queues.specs.Seats.{Joined, Closed, closing}
 use Rattle.queues.specs.Held.{resident, parts_of}
 use Rattle.queues.specs.Steps.{seated_top}
-use Rattle.queues.proofs.Maps.{map_same, map_map}
+use Rattle.queues.proofs.Maps.{map_same}
 use Rattle.queues.proofs.Sound.{Sound, in_list, out_of_list, home_from, at_most_once, home_low, home_opened, one_in_all, front_long, all_long}
 use Rattle.queues.proofs.Moved.{Restated, fronted_sound, home_other, home_here as home_moved, state_here, resident_other, age_kept}
 use Rattle.queues.proofs.Ages.{since_now, since_next, rising_next, rising_last}
@@ -81,30 +83,37 @@ module _ (s t : Slots) (w : ℕ) (sound : Sound w s) (small : w ≤ 255) (some :
   home_there : (q : ℕ) → (q ≡ p → ⊥) → home_in t q ≡ home_in s q
   home_there q n = j.homes q ∙ rw (lt-ltb p 512 low, ne_eqb q p n)
 
+  slot_p : slot_of t p ≡ record { state = Young; admitted = t.admissions }
+  slot_p =
+      let z = sound.sized in
+      let l = low in
+      ap (λ (xs : List ResidentSlot). get_or xs p (record { state = Plain; admitted = 0 })) j.places
+      ∙ get_or-set_same s.places p (record { state = Young; admitted = t.admissions }) (record { state = Plain; admitted = 0 }) (omega arith)
+
+  slot_q : (q : ℕ) → (q ≡ p → ⊥) → slot_of t q ≡ slot_of s q
+  slot_q q n =
+      let ne : q ≢ p = n in
+      ap (λ (xs : List ResidentSlot). get_or xs q (record { state = Plain; admitted = 0 })) j.places
+      ∙ get_or-set_other s.places p q (record { state = Young; admitted = t.admissions }) (record { state = Plain; admitted = 0 }) ne
+
   state_p : state_of t p ≡ Young
   state_p =
-      let z = sound.sized.0 in
-      let l = low in
-      ap (λ (xs : List SlotState). get_or xs p Plain) j.states ∙ get_or-set_same s.states p Young Plain (omega arith)
+      ap (λ (r : ResidentSlot). r.state) slot_p
 
   state_q : (q : ℕ) → (q ≡ p → ⊥) → state_of t q ≡ state_of s q
   state_q q n =
-      let ne : q ≢ p = n in
-      ap (λ (xs : List SlotState). get_or xs q Plain) j.states ∙ get_or-set_other s.states p q Young Plain ne
+      ap (λ (r : ResidentSlot). r.state) (slot_q q n)
 
   age_p : age_of t p ≡ 0
   age_p =
-      let z = sound.sized.1 in
-      let l = low in
-      let a : get_or t.admitted p 0 ≡ t.admissions = ap (λ (xs : List ℕ). get_or xs p 0) j.admitted ∙ get_or-set_same s.admitted p t.admissions 0 (omega arith) in
+      let a : (slot_of t p).admitted ≡ t.admissions = ap (λ (r : ResidentSlot). r.admitted) slot_p in
       rw (a, j.admissions) (since_now (s.admissions + 1))
 
   age_q : (q : ℕ) → (q ≡ p → ⊥) → home_in s q ≡ 0 → age_of t q ≡ age_of s q + 1
   age_q q n h =
-      let ne : q ≢ p = n in
       let r = sound.recent q h in
-      let a : get_or t.admitted q 0 ≡ get_or s.admitted q 0 = ap (λ (xs : List ℕ). get_or xs q 0) j.admitted ∙ get_or-set_other s.admitted p q t.admissions 0 ne in
-      rw (a, j.admissions) (since_next s.admissions (get_or s.admitted q 0) (omega arith))
+      let a : (slot_of t q).admitted ≡ (slot_of s q).admitted = ap (λ (r : ResidentSlot). r.admitted) (slot_q q n) in
+      rw (a, j.admissions) (since_next s.admissions (slot_of s q).admitted (omega arith))
 
   other_young : (q : ℕ) → home_in s q ≡ 0 → q ≡ p → ⊥
   other_young q h e = let i = home_p in let k : home_in s q ≡ home_in s p = ap (home_in s) e in omega arith
@@ -114,7 +123,7 @@ module _ (s t : Slots) (w : ℕ) (sound : Sound w s) (small : w ≤ 255) (some :
   joined_sound =
       let i = home_p in
       record {
-        sized = (ap (λ (xs : List SlotState). length xs) j.states ∙ simp length-set sound.sized.0, ap (λ (xs : List ℕ). length xs) j.admitted ∙ simp length-set sound.sized.1);
+        sized = ap (λ (xs : List ResidentSlot). length xs) j.places ∙ simp length-set sound.sized;
         listed = λ q.
             elim (cases_eq q p) [
               | inl e ↦
@@ -201,7 +210,7 @@ module _ (s t : Slots) (w : ℕ) (sound : Sound w s) (small : w ≤ 255) (some :
     seat_parts u a b c d here near far =
         let m = map_same (resident u) (λ q. marked (aged w (resident s q).mark) (resident s q)) (list_of 0 s ++ list_of 1 s)
         (λ q o. near q (small_home s q (let k = occurs_append q (list_of 0 s) (list_of 1 s) in omega arith))) in
-        let n = map_map (resident s) (λ r. marked (aged w r.mark) r) (list_of 0 s ++ list_of 1 s) in
+        let n = map-map (λ r. marked (aged w r.mark) r) (resident s) (list_of 0 s ++ list_of 1 s) in
         let f = map_same (resident u) (resident s) (list_of 2 s) (λ q o. far q (home_from s q 2 (omega arith) o)) in
         rw (a, b, c, d, top, here, m, n, f)
 
@@ -244,7 +253,7 @@ module _ (s t : Slots) (w : ℕ) (sound : Sound w s) (small : w ≤ 255) (some :
       home_s_z = sym (home_there z z≢p) ∙ home_z
 
       re : Restated t u z (met (state_of t z) WindowClosed)
-      re = record { states = cl.states; admitted = cl.admitted; admissions = cl.admissions; opened = cl.opened; window = cl.window }
+      re = record { places = cl.places; admissions = cl.admissions; opened = cl.opened; window = cl.window }
 
       low_z : z < t.opened
       low_z = let h = home_z in home_opened t joined_sound.listed z (omega arith)
@@ -260,7 +269,7 @@ module _ (s t : Slots) (w : ℕ) (sound : Sound w s) (small : w ≤ 255) (some :
       home_u_z = home_moved t u z (met (state_of t z) WindowClosed) re (w + 1) 1 (omega arith) (omega arith) joined_sound low_z cl.homes (closed_calm (state_of t z))
 
       age_u : (q : ℕ) → age_of u q ≡ age_of t q
-      age_u q = age_kept t u cl.admitted cl.admissions q
+      age_u q = age_kept t u z (met (state_of t z) WindowClosed) re q
 
       at_most_w : age_of t z ≤ w
       at_most_w = let r = joined_sound.recent z home_z in omega arith
@@ -313,7 +322,7 @@ module _ (s t : Slots) (w : ℕ) (sound : Sound w s) (small : w ≤ 255) (some :
       mark_z =
           let h = home_z in
           let l = home_low t z (omega arith) in
-          let k = joined_sound.sized.0 in
+          let k = joined_sound.sized in
           let a : state_of u z ≡ met (state_of t z) WindowClosed = state_here t u z (met (state_of t z) WindowClosed) re (omega arith) in
           let b = in_y z home_s_z in
           let c : state_of t z ≡ Young = state_q z z≢p ∙ b in

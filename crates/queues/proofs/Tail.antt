@@ -1,9 +1,10 @@
 -- Small's tail: which place it is, and what stands before it.
-use Rattle.std.proofs.Common.{◌≡◌, ℕ, ◌<◌, List, [], ◌∷◌, ◌++◌, map, Some, None, Option, sym, refl, ap, ◌∙◌, arith}
+use Rattle.std.proofs.Common.{◌≡◌, ℕ, ◌<◌, false, List, [], ◌∷◌, ◌++◌, map, Some, None, Option, sym, refl, ap, ◌∙◌, arith}
 use Rattle.std.proofs.lemmas.List.{append-nil, append_assoc}
+use Rattle.std.specs.Option.{option_or}
 use Rattle.links.specs.Rows.{occurs, last_or, last_of}
 use Rattle.links.proofs.Counts.{occurs_append, occurs_same}
-use Rattle.machine.specs.Replacement.{ended, is_tail_used}
+use Rattle.machine.specs.Replacement.{Resident, Ended, ended, is_tail_used}
 use Rattle.queues.specs.declared.slots.Slots.{Slots}
 use Rattle.queues.specs.State.{was_used}
 use Rattle.queues.specs.Slots.{list_of, home_in, state_of, age_of}
@@ -27,17 +28,29 @@ module _ (s : Slots) where
   tail_place (x ∷ xs) =
       sym (ap (λ (ys : List ℕ). place_of (ended (map (resident s) ys))) (front_last x xs) ∙ ap place_of (ended_map (resident s) (front x xs) (last_or x xs)))
 
-  pub tail_old : (p : ℕ) → Some p ≡ last_of (list_of 1 s) → Some p ≡ place_of (ended (parts_of s).small)
+  tail_old : (p : ℕ) → Some p ≡ last_of (list_of 1 s) → Some p ≡ place_of (ended (parts_of s).small)
   tail_old p e =
       let o = split_last (list_of 1 s) p e in
       let w : list_of 0 s ++ list_of 1 s ≡ (list_of 0 s ++ o.rest) ++ p ∷ [] = ap (λ (xs : List ℕ). list_of 0 s ++ xs) o.is ∙ sym (append_assoc (list_of 0 s) o.rest (p ∷ [])) in
       sym (last_of_snoc (list_of 0 s ++ o.rest) p) ∙ (ap last_of (sym w) ∙ tail_place (list_of 0 s ++ list_of 1 s))
 
-  pub tail_young : None ≡ last_of (list_of 1 s) → (r : Option ℕ) → r ≡ last_of (list_of 0 s) → r ≡ place_of (ended (parts_of s).small)
+  tail_young : None ≡ last_of (list_of 1 s) → (r : Option ℕ) → r ≡ last_of (list_of 0 s) → r ≡ place_of (ended (parts_of s).small)
   tail_young e r i =
       let o = no_last (list_of 1 s) e in
       let w : list_of 0 s ++ list_of 1 s ≡ list_of 0 s = ap (λ (xs : List ℕ). list_of 0 s ++ xs) o ∙ append-nil (list_of 0 s) in
       i ∙ (ap last_of (sym w) ∙ tail_place (list_of 0 s ++ list_of 1 s))
+
+  -- the last of the others, else the oldest of the young
+  pub tail_is : (o y : Option ℕ) → o ≡ last_of (list_of 1 s) → y ≡ last_of (list_of 0 s) → option_or o y ≡ place_of (ended (parts_of s).small)
+  tail_is None y e f = tail_young e y f
+  tail_is (Some p) y e f = tail_old p e
+
+  pub untailed_is : None ≡ place_of (ended (parts_of s).small) → false ≡ is_tail_used (ended (parts_of s).small)
+  untailed_is h = go (ended (parts_of s).small) h
+    where
+      go : (o : Option (Ended (Resident ℕ))) → None ≡ place_of o → false ≡ is_tail_used o
+      go None e = refl
+      go (Some x) e = let z : ◌≡◌ {A = ℕ} 0 1 = cc in absurd (omega arith)
 
   -- what the place of the tail tells
   module _ (p : ℕ) (e : Some p ≡ place_of (ended (parts_of s).small)) where

@@ -56,7 +56,7 @@ small_once s p =
       | inr e ↦ let a = out_of_list s p 0 (omega arith) e in let b = at_most_once s p 1 (omega arith) in omega arith
     ]
 
-module _ (s t : Slots) (p : ℕ) (st : SlotState) (re : Restated s t p st) (calm : st ≡ Plain) (low : p < 512) (long : length s.states ≡ 512) (to : lists t.line ≡ backed p 2 (lists s.line)) where
+module _ (s t : Slots) (p : ℕ) (st : SlotState) (re : Restated s t p st) (calm : st ≡ Plain) (low : p < 512) (long : length s.places ≡ 512) (to : lists t.line ≡ backed p 2 (lists s.line)) where
   here : resident t p ≡ record { item = p; mark = plain }
   here =
       let a = state_here s t p st re (omega arith) in

@@ -13,7 +13,7 @@ use Rattle.queues.proofs.Sound.{Sound, none_in_all, out_of_list, front_long, all
 
 abbrev pub widened : Slots → Line → Slots
 widened s l =
-    record { line = l; states = s.states; admitted = s.admitted; admissions = s.admissions; opened = s.opened + 1; window = s.window }
+    record { line = l; places = s.places; admissions = s.admissions; opened = s.opened + 1; window = s.window }
 
 module _ (b : ℕ) (s : Slots) (l : Line) (sound : Sound b s) (room : s.opened < 512) (to : lists l ≡ fronted s.opened 3 (lists s.line)) where
   far : 4 ≤ home_in s s.opened

@@ -1,4 +1,5 @@
 pub mod State
+pub mod Lists
 pub mod Slots
 pub mod Held
 pub mod Steps

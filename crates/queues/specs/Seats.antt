@@ -5,15 +5,14 @@ use Rattle.links.specs.Rows.{fronted}
 use Rattle.queues.specs.declared.slots.Slots.{Slots}
 use Rattle.queues.specs.declared.state.SlotState.TheVariants.{Young}
 use Rattle.queues.specs.declared.state.Event.TheVariants.{WindowClosed}
-use Rattle.queues.specs.State.{met}
-use Rattle.queues.specs.Slots.{home_in, state_of, age_of}
+use Rattle.queues.specs.State.{met, with_state}
+use Rattle.queues.specs.Slots.{home_in, slot_of, state_of, age_of}
 
 -- the place is first among the young, with the next number of admission
 pub record Joined (s t : Slots) (p : ℕ) : Type 0 where
   pub line : lists t.line ≡ fronted p 0 (lists s.line)
   pub homes : (q : ℕ) → home_in t q ≡ rehomed p 0 (home_in s) q
-  pub states : t.states ≡ slice_set s.states p Young
-  pub admitted : t.admitted ≡ slice_set s.admitted p t.admissions
+  pub places : t.places ≡ slice_set s.places p (record { state = Young; admitted = t.admissions })
   pub admissions : t.admissions ≡ (s.admissions + 1) % 256
   pub opened : t.opened ≡ s.opened
   pub window : t.window ≡ s.window
@@ -22,8 +21,7 @@ pub record Joined (s t : Slots) (p : ℕ) : Type 0 where
 pub record Closed (s t : Slots) (p : ℕ) : Type 0 where
   pub line : lists t.line ≡ fronted p 1 (lists s.line)
   pub homes : (q : ℕ) → home_in t q ≡ rehomed p 1 (home_in s) q
-  pub states : t.states ≡ slice_set s.states p (met (state_of s p) WindowClosed)
-  pub admitted : t.admitted ≡ s.admitted
+  pub places : t.places ≡ slice_set s.places p (with_state (slot_of s p) (met (state_of s p) WindowClosed))
   pub admissions : t.admissions ≡ s.admissions
   pub opened : t.opened ≡ s.opened
   pub window : t.window ≡ s.window

@@ -1,8 +1,9 @@
 -- The lists and marks that the slots of the residents hold.
-use Rattle.std.specs.Prelude.{◌≡◌, ℕ, suc, ◌+◌, ◌-◌, ◌%◌, ◌<◌, Bool, true, ◌&&◌, List, [], ◌∷◌, map, length, ◌==◌, nat_le, nat_lt, slice_index, slice_index_or}
+use Rattle.std.specs.Prelude.{◌≡◌, ℕ, suc, ◌+◌, ◌-◌, ◌%◌, ◌<◌, Bool, true, ◌&&◌, List, [], ◌∷◌, map, length, ◌==◌, nat_le, nat_lt, slice_index_or}
 use Rattle.links.specs.Lists.{lists, home_of}
 use Rattle.links.specs.Rows.{nth}
 use Rattle.queues.specs.declared.slots.Slots.{Slots}
+use Rattle.queues.specs.declared.slots.ResidentSlot.{ResidentSlot}
 use Rattle.queues.specs.declared.state.SlotState.{SlotState}
 use Rattle.queues.specs.declared.state.SlotState.TheVariants.{Plain}
 use Rattle.queues.specs.State.{is_young}
@@ -14,15 +15,18 @@ list_of k s = nth k (lists s.line)
 abbrev pub home_in : Slots → ℕ → ℕ
 home_in s p = home_of s.line p
 
+abbrev pub slot_of : Slots → ℕ → ResidentSlot
+slot_of s p = slice_index_or s.places p (record { state = Plain; admitted = 0 })
+
 abbrev pub state_of : Slots → ℕ → SlotState
-state_of s p = slice_index_or s.states p Plain
+state_of s p = (slot_of s p).state
 
 -- how many have joined Small since the admission numbered a; the numbers go round at 256
 abbrev pub since : ℕ → ℕ → ℕ
 since now a = (now + (256 - a % 256)) % 256
 
 abbrev pub age_of : Slots → ℕ → ℕ
-age_of s p = since s.admissions (slice_index s.admitted p)
+age_of s p = since s.admissions (slot_of s p).admitted
 
 -- whether numbers rise, from low on
 abbrev pub rising : ℕ → List ℕ → Bool
@@ -30,7 +34,7 @@ rising low [] = true
 rising low (a ∷ rest) = nat_le low a && rising (suc a) rest
 
 abbrev pub Sized : Slots → Type 0
-Sized s = (length s.states ≡ 512) × (length s.admitted ≡ 512)
+Sized s = length s.places ≡ 512
 
 -- each place below the number opened is in a list, and no other
 abbrev pub Listed : Slots → Type 0

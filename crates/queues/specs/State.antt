@@ -4,6 +4,7 @@ use Rattle.queues.specs.declared.state.SlotState.{SlotState}
 use Rattle.queues.specs.declared.state.SlotState.TheVariants.{Plain, Young, Used}
 use Rattle.queues.specs.declared.state.Event.{Event}
 use Rattle.queues.specs.declared.state.Event.TheVariants.{Hit, WindowClosed, Chance, Promotion}
+use Rattle.queues.specs.declared.slots.ResidentSlot.{ResidentSlot}
 use Rattle.machine.specs.Replacement.{Mark, young, plain, used}
 
 -- a use turns plain to used; young turns plain as its window closes; a chance turns used to plain, and a promotion all
@@ -36,3 +37,7 @@ abbrev pub seen : SlotState → ℕ → Mark
 seen Plain since = plain
 seen Young since = young since
 seen Used since = used
+
+-- a slot with another state
+abbrev pub with_state : ResidentSlot → SlotState → ResidentSlot
+with_state r st = record { state = st; admitted = r.admitted }

@@ -2,6 +2,7 @@
 //! links, with the residents' marks.
 #![tactic(auto)]
 
+mod lists;
 pub mod location;
 mod main_ring;
 mod place;

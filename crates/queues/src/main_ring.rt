@@ -5,18 +5,18 @@ ghost use Rattle.machine.specs.Replacement.{sweep as swept};
 ghost use Rattle.queues.specs.Held.{held};
 ghost use Rattle.queues.specs.Steps.{turned, passed, hand_at, told};
 
-use crate::place::MAIN;
+use crate::lists::List;
 use crate::residents::Residents;
 use crate::selected::Selected;
-use crate::state::{Event, meet_at, used_at};
+use crate::state::Event;
 
 impl Residents {
     /// The place at the hand, and whether its resident is used.
     fn hand(&self) -> Option<(u16, bool)>
         ensures { result ≡ hand_at (held self.now).main }
     {
-        let place = self.slots.line.first(MAIN)?;
-        Some((place, used_at(&self.slots.states, place)))
+        let place = self.slots.line.first(List::Main as u8)?;
+        Some((place, self.slots.places[place as usize].state.is_used()))
     }
 
     /// The hand gives the first of Main a chance and passes it.
@@ -24,9 +24,9 @@ impl Residents {
         ensures held { held self.new ≡ passed (held self.old).main (held self.old) }
         ensures window { self.new.slots.window ≡ self.old.slots.window }
     {
-        if let Some(place) = self.slots.line.first(MAIN) {
-            meet_at(&mut self.slots.states, place, Event::Chance);
-            self.slots.line.push_back(place, MAIN);
+        if let Some(place) = self.slots.line.first(List::Main as u8) {
+            self.slots.places[place as usize].meet(Event::Chance);
+            self.slots.line.push_back(place, List::Main as u8);
         }
     }
 
@@ -36,19 +36,14 @@ impl Residents {
         ensures held { held self.new ≡ turned (swept (held self.old).main) (held self.old) }
         ensures window { self.new.slots.window ≡ self.old.slots.window }
     {
-        if self.main_len() == 0 {
-            return None;
-        }
         let mut chances = 0;
         let victim = loop {
-            match self.hand() {
-                Some((_, true)) => {
-                    self.pass();
-                    chances += 1;
-                }
-                Some((place, false)) => break place,
-                None => unreachable(),
+            let (place, used) = self.hand()?;
+            if !used {
+                break place;
             }
+            self.pass();
+            chances += 1;
         };
         Some(Selected { victim, chances })
     }

@@ -3,34 +3,15 @@
 ghost use Rattle.std.specs.Prelude.{◌≡◌, ℕ, ◌<◌, ◌≤◌, max, length, if◌then◌else◌, nat_eq, nat_lt};
 ghost use Rattle.links.specs.Rows.{first_of};
 ghost use Rattle.machine.specs.Replacement.{uses, nothing};
-ghost use Rattle.queues.specs.Held.{held, locate, part_at, resides};
+ghost use Rattle.queues.specs.Held.{held, locate, resides};
 ghost use Rattle.queues.specs.Steps.{released, unlocked};
 
+use crate::lists::List;
 use crate::location::Location;
 use crate::residents::Residents;
-use crate::slots::Slots;
-use crate::state::{Event, SlotState, meet_at};
+use crate::slots::{ResidentSlot, Slots};
+use crate::state::{Event, SlotState};
 use links::Line;
-
-/// The lists of the line.
-pub(crate) const YOUNG: u8 = 0;
-
-pub(crate) const OLD: u8 = 1;
-
-pub(crate) const MAIN: u8 = 2;
-
-pub(crate) const FREE: u8 = 3;
-
-/// The part whose list has this number.
-fn part_at(list: u8) -> Location
-    ensures { result ≡ part_at list }
-{
-    match list {
-        YOUNG | OLD => Location::Small,
-        MAIN => Location::Main,
-        _ => Location::Free,
-    }
-}
 
 impl Residents {
     /// No place opened; a window closes at this many newcomers, but at one at least.
@@ -41,8 +22,10 @@ impl Residents {
         Residents {
             slots: Slots {
                 line: Line::new(),
-                states: [SlotState::Plain; 512],
-                admitted: [0; 512],
+                places: [ResidentSlot {
+                    state: SlotState::Plain,
+                    admitted: 0,
+                }; 512],
                 admissions: 0,
                 opened: 0,
                 window: window.max(1),
@@ -54,14 +37,15 @@ impl Residents {
     pub fn small_len(&self) -> usize
         ensures { result ≡ length (held self.now).small }
     {
-        self.slots.line.len(YOUNG) as usize + self.slots.line.len(OLD) as usize
+        self.slots.line.len(List::Young as u8) as usize
+            + self.slots.line.len(List::Old as u8) as usize
     }
 
     /// How many residents Main has.
     pub fn main_len(&self) -> usize
         ensures { result ≡ length (held self.now).main }
     {
-        self.slots.line.len(MAIN) as usize
+        self.slots.line.len(List::Main as u8) as usize
     }
 
     /// How many places were ever opened.
@@ -75,17 +59,16 @@ impl Residents {
     pub fn top(&self) -> Option<u16>
         ensures { result ≡ first_of (held self.now).free }
     {
-        self.slots.line.first(FREE)
+        self.slots.line.first(List::Free as u8)
     }
 
     /// The part that holds a place.
     pub fn location(&self, place: u16) -> Location
         ensures { result ≡ locate place (held self.now) }
     {
-        match self.slots.line.home(place) {
-            Some(list) => part_at(list),
-            None => Location::Free,
-        }
+        let number = self.slots.line.home(place);
+        let list = number.and_then(|number| List::try_from(number).ok());
+        list.map_or(Location::Free, Location::from)
     }
 
     /// A use of the resident of a place.
@@ -93,8 +76,8 @@ impl Residents {
         ensures held { held self.new ≡ uses (λ q. nat_eq q place) (held self.old) }
         ensures window { self.new.slots.window ≡ self.old.slots.window }
     {
-        if (place as usize) < self.slots.states.len() {
-            meet_at(&mut self.slots.states, place, Event::Hit);
+        if (place as usize) < self.slots.places.len() {
+            self.slots.places[place as usize].meet(Event::Hit);
         }
     }
 
@@ -107,8 +90,8 @@ impl Residents {
         match self.location(place) {
             Location::Free => false,
             Location::Small | Location::Main => {
-                self.slots.line.push_front(place, FREE);
-                self.slots.states[place as usize] = SlotState::Plain;
+                self.slots.line.push_front(place, List::Free as u8);
+                self.slots.places[place as usize].state = SlotState::Plain;
                 true
             }
         }
@@ -121,7 +104,9 @@ impl Residents {
         ensures window { self.new.slots.window ≡ self.old.slots.window }
     {
         if self.slots.opened < 512 {
-            self.slots.line.push_front(self.slots.opened, FREE);
+            self.slots
+                .line
+                .push_front(self.slots.opened, List::Free as u8);
             self.slots.opened += 1;
             true
         } else {

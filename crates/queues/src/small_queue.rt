@@ -5,29 +5,27 @@ ghost use Rattle.machine.specs.Replacement.{ended, is_tail_used};
 ghost use Rattle.queues.specs.Held.{held};
 ghost use Rattle.queues.specs.Steps.{place_of, promoted};
 
-use crate::place::{MAIN, OLD, YOUNG};
+use crate::lists::List;
 use crate::residents::Residents;
-use crate::state::{Event, meet_at, used_at};
+use crate::state::Event;
 
 impl Residents {
     /// The place of Small's last.
     pub fn tail(&self) -> Option<u16>
         ensures { result ≡ place_of (ended (held self.now).small) }
     {
-        match self.slots.line.last(OLD) {
-            Some(place) => Some(place),
-            None => self.slots.line.last(YOUNG),
-        }
+        self.slots
+            .line
+            .last(List::Old as u8)
+            .or(self.slots.line.last(List::Young as u8))
     }
 
     /// Whether Small's last has earned promotion.
     pub fn tail_used(&self) -> bool
         ensures { result ≡ is_tail_used (ended (held self.now).small) }
     {
-        match self.tail() {
-            Some(place) => used_at(&self.slots.states, place),
-            None => false,
-        }
+        self.tail()
+            .is_some_and(|place| self.slots.places[place as usize].state.is_used())
     }
 
     /// Moves Small's last to Main's end.
@@ -36,8 +34,8 @@ impl Residents {
         ensures window { self.new.slots.window ≡ self.old.slots.window }
     {
         if let Some(place) = self.tail() {
-            meet_at(&mut self.slots.states, place, Event::Promotion);
-            self.slots.line.push_back(place, MAIN);
+            self.slots.places[place as usize].meet(Event::Promotion);
+            self.slots.line.push_back(place, List::Main as u8);
         }
     }
 }

@@ -1,8 +1,7 @@
 //! What a slot remembers of the uses of its resident.
 
-ghost use Rattle.std.specs.Prelude.{◌≡◌, ◌<◌, length, slice_index_or, slice_set};
-ghost use Rattle.queues.specs.declared.state.SlotState.TheVariants.{Plain};
-ghost use Rattle.queues.specs.State.{met, is_young, was_used};
+ghost use Rattle.std.specs.Prelude.{◌≡◌};
+ghost use Rattle.queues.specs.State.{met, was_used};
 
 /// The state of a slot, from which its resident's mark is read.
 #[derive(Clone, Copy, PartialEq, Eq)]
@@ -46,25 +45,6 @@ impl SlotState {
     pub fn is_used(&self) -> bool
         ensures { result ≡ was_used self.now }
     {
-        match self {
-            SlotState::Used => true,
-            SlotState::Plain | SlotState::Young => false,
-        }
+        matches!(self, SlotState::Used)
     }
-}
-
-/// The state of a place takes an event.
-pub(crate) fn meet_at(states: &mut [SlotState], place: u16, event: Event)
-    requires { place < length states.old }
-    ensures { states.new ≡ slice_set states.old place (met (slice_index_or states.old place Plain) event) }
-{
-    states[place as usize].meet(event);
-}
-
-/// Whether a use of the resident of a place counts against eviction.
-pub(crate) fn used_at(states: &[SlotState], place: u16) -> bool
-    requires { place < length states.now }
-    ensures { result ≡ was_used (slice_index_or states.now place Plain) }
-{
-    states[place as usize].is_used()
 }

@@ -34,14 +34,10 @@ loop-place-preserved c =
       )
     ]
 
-pub returns : goal.returns
-returns c =
+pub returns-clause-held : goal.returns-clause-held
+returns-clause-held c =
     let at = flagged c.args.flags.now in
     let s = held c.args.residents.now in
     let e : c.loop-place.place ≡ s.opened = omega arith in
-    record {
-      held =
-          c.loop-place.invariant.0
-          ∙ (ap (λ (i : ℕ). up_to i at s) e ∙ all_dropped at s (λ q o. stands_low c.args.residents.now q (omega arith)));
-      window = c.loop-place.invariant.1;
-    }
+    c.loop-place.invariant.0
+    ∙ (ap (λ (i : ℕ). up_to i at s) e ∙ all_dropped at s (λ q o. stands_low c.args.residents.now q (omega arith)))

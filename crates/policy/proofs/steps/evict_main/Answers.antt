@@ -6,15 +6,11 @@ use Rattle.policy.specs.View.{noting}
 use Rattle.policy.proofs.Outs.{victim_out, noted_out}
 use Rattle.policy.proofs.steps.evict_main.Goals as goal
 
-pub returns : goal.returns
-returns c =
+pub returns-clause-view : goal.returns-clause-view
+returns-clause-view c =
     let q = c.args.core.now.residents in
-    record {
-      answer = c.in_ok-selected.ensures.answer;
-      view =
-          ap (noting (remembered c.args.core.now.ghosts))
-          (victim_out c.sweep.new.self c.release.new.self (held q) (sweep (held q).main) c.in_ok-selected.selected refl
-          c.in_ok-selected.ensures.answer c.sweep.ensures.held c.release.ensures.held)
-          ∙ noted_out (remembered c.args.core.now.ghosts) (held q) (sweep (held q).main);
-      same = (refl, refl, refl, c.release.ensures.window ∙ c.sweep.ensures.window, refl);
-    }
+    let g = remembered c.args.core.now.ghosts in
+    ap (noting g)
+    (victim_out c.sweep.new.self c.release.new.self (held q) (sweep (held q).main) c.in_ok-selected.selected refl
+    c.in_ok-selected.ensures.answer c.sweep.ensures.held c.release.ensures.held)
+    ∙ noted_out g (held q) (sweep (held q).main)

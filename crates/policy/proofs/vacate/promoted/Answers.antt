@@ -1,12 +1,9 @@
-use Rattle.std.proofs.Common.{[], arith}
+use Rattle.std.proofs.Common.{[], sym, ◌∙◌, arith}
 use Rattle.policy.specs.View.{view}
-use Rattle.policy.proofs.Frees.{victim_there, tail_there}
+use Rattle.policy.proofs.Frees.{victim_there}
 use Rattle.policy.proofs.vacate.promoted.Goals as goal
 
-pub unreachable-requires : goal.unreachable-requires
-unreachable-requires c =
+pub unreachable-requires-in_default-promote_then_evict : goal.unreachable-requires-in_default-promote_then_evict
+unreachable-requires-in_default-promote_then_evict c =
     let l = c.requires.main in
-    victim_there 0 [] (view c.args.core.now).main (omega arith) c.in-None-promote_then_evict.ensures.answer
-
-pub unreachable-requires-in-None : goal.unreachable-requires-in-None
-unreachable-requires-in-None c = tail_there (view c.args.core.now).small c.requires.small c.in-None.ensures
+    victim_there 0 [] (view c.args.core.now).main (omega arith) (sym c.in_default-promote_then_evict.is ∙ c.promote_then_evict.ensures.answer)

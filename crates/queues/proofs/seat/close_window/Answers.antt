@@ -8,9 +8,7 @@ age-requires c =
     let h = oldest_home c.args.slots.now c.in-Some.oldest c.in-Some.ensures in
     home_low c.args.slots.now c.in-Some.oldest (omega arith)
 
-pub meet_at-requires : goal.meet_at-requires
-meet_at-requires c =
+pub bounds-slots-oldest : goal.bounds-slots-oldest
+bounds-slots-oldest c =
     let h = oldest_home c.args.slots.now c.in-Some.oldest c.in-Some.ensures in
-    let l = home_low c.args.slots.now c.in-Some.oldest (omega arith) in
-    let z = c.requires in
-    omega arith
+    home_low c.args.slots.now c.in-Some.oldest (omega arith)

@@ -2,8 +2,8 @@ use Rattle.std.proofs.Common.{arith}
 use Rattle.links.proofs.line.Line.first.Goals as goal
 use Rattle.links.proofs.Found.{first_is}
 
-pub returns-then-self-list-gt0 : goal.returns-then-self-list-gt0
-returns-then-self-list-gt0 c =
-    first_is c.args.self.now.cells
-    c.args.self.now.sized
-    c.args.self.now.linked c.args.self.now.once c.args.list (omega arith) (omega arith)
+pub returns : goal.returns
+returns c =
+    let l = c.args.self.now in
+    let n = c.len.ensures in
+    first_is l.cells l.sized l.linked l.once c.args.list (omega arith)

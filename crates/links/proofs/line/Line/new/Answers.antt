@@ -17,10 +17,10 @@ none p k l = rw (nowhere p, ne_eqb 4 k (λ e. omega arith))
 
 pub invariant_of-result : goal.invariant_of-result
 invariant_of-result c = record {
-  sized = (refl, refl, refl, refl);
+  sized = (refl, refl, refl);
   linked = four _ refl refl refl refl;
   once = λ p. four _ (none p 0 (omega arith)) (none p 1 (omega arith)) (none p 2 (omega arith)) (none p 3 (omega arith));
 }
 
-pub returns : goal.returns
-returns c = record { lists = refl; homes = nowhere }
+pub returns-clause-homes : goal.returns-clause-homes
+returns-clause-homes c = nowhere

@@ -1,47 +1,36 @@
 use Rattle.std.proofs.Common.{arith}
 use Rattle.links.proofs.line.Line.push_front.Goals as goal
-use Rattle.links.proofs.Pushes.{left_ok, right_ok, counted_ok, room_ok, after_ok, front_sized, front_linked, front_once, front_lists, front_homes}
+use Rattle.links.proofs.Pushes.{left_ok, right_ok, counted_ok, room_ok, after_ok, front_sized, front_linked, front_once, front_lists}
 
-pub detach-requires : goal.detach-requires
-detach-requires c =
-    let z = c.args.self.now.sized in
-    let l = c.args.self.now.linked in
-    let o = c.args.self.now.once in
-    record {
-      inside = omega arith;
-      before = left_ok c.args.self.now.cells z l o c.args.node c.args.list (omega arith) (omega arith);
-      after = right_ok c.args.self.now.cells z l o c.args.node c.args.list (omega arith) (omega arith);
-      counted = counted_ok c.args.self.now.cells z l o c.args.node c.args.list (omega arith) (omega arith);
-    }
+pub detach-requires-clause-before : goal.detach-requires-clause-before
+detach-requires-clause-before c = let l = c.args.self.now in left_ok l.cells l.sized l.linked l.once c.args.node c.args.list (omega arith) (omega arith)
 
-pub attach-requires : goal.attach-requires
-attach-requires c =
-    let z = c.args.self.now.sized in
-    let l = c.args.self.now.linked in
-    let o = c.args.self.now.once in
-    record {
-      inside = omega arith;
-      left = omega arith;
-      right = after_ok c.args.self.now.cells z l o c.args.node c.args.list (omega arith) (omega arith) c.detach.new.cells c.detach.ensures;
-      listed = omega arith;
-      room = room_ok c.args.self.now.cells z l o c.args.node c.args.list (omega arith) (omega arith) c.detach.new.cells c.detach.ensures;
-    }
+pub detach-requires-clause-after : goal.detach-requires-clause-after
+detach-requires-clause-after c = let l = c.args.self.now in right_ok l.cells l.sized l.linked l.once c.args.node c.args.list (omega arith) (omega arith)
+
+pub detach-requires-clause-counted : goal.detach-requires-clause-counted
+detach-requires-clause-counted c = let l = c.args.self.now in counted_ok l.cells l.sized l.linked l.once c.args.node c.args.list (omega arith) (omega arith)
+
+pub attach-requires-clause-right : goal.attach-requires-clause-right
+attach-requires-clause-right c =
+    let l = c.args.self.now in
+    after_ok l.cells l.sized l.linked l.once c.args.node c.args.list (omega arith) (omega arith) c.detach.new.cells c.detach.ensures
+
+pub attach-requires-clause-room : goal.attach-requires-clause-room
+attach-requires-clause-room c =
+    let l = c.args.self.now in
+    room_ok l.cells l.sized l.linked l.once c.args.node c.args.list (omega arith) (omega arith) c.detach.new.cells c.detach.ensures
 
 pub invariant_of-self : goal.invariant_of-self
 invariant_of-self c =
-    let z = c.args.self.now.sized in
-    let l = c.args.self.now.linked in
-    let o = c.args.self.now.once in
+    let l = c.args.self.now in
     record {
-      sized = front_sized c.args.self.now.cells z l o c.args.node c.args.list (omega arith) (omega arith) c.detach.new.cells c.detach.ensures c.attach.new.cells c.attach.ensures;
-      linked = front_linked c.args.self.now.cells z l o c.args.node c.args.list (omega arith) (omega arith) c.detach.new.cells c.detach.ensures c.attach.new.cells c.attach.ensures;
-      once = front_once c.args.self.now.cells z l o c.args.node c.args.list (omega arith) (omega arith) c.detach.new.cells c.detach.ensures c.attach.new.cells c.attach.ensures;
+      sized = front_sized l.cells l.sized l.linked l.once c.args.node c.args.list (omega arith) (omega arith) c.detach.new.cells c.detach.ensures c.attach.new.cells c.attach.ensures;
+      linked = front_linked l.cells l.sized l.linked l.once c.args.node c.args.list (omega arith) (omega arith) c.detach.new.cells c.detach.ensures c.attach.new.cells c.attach.ensures;
+      once = front_once l.cells l.sized l.linked l.once c.args.node c.args.list (omega arith) (omega arith) c.detach.new.cells c.detach.ensures c.attach.new.cells c.attach.ensures;
     }
 
-pub returns-then-list-lt-LISTS : goal.returns-then-list-lt-LISTS
-returns-then-list-lt-LISTS c =
-    let z = c.args.self.now.sized in
-    record {
-      lists = front_lists c.args.self.now.cells z c.args.self.now.linked c.args.self.now.once c.args.node c.args.list (omega arith) (omega arith) c.detach.new.cells c.detach.ensures c.attach.new.cells c.attach.ensures;
-      homes = front_homes c.args.self.now.cells z c.args.self.now.linked c.args.self.now.once c.args.node c.args.list (omega arith) (omega arith) c.detach.new.cells c.detach.ensures c.attach.new.cells c.attach.ensures;
-    }
+pub returns-then-list-lt-LISTS-clause-lists : goal.returns-then-list-lt-LISTS-clause-lists
+returns-then-list-lt-LISTS-clause-lists c =
+    let l = c.args.self.now in
+    front_lists l.cells l.sized l.linked l.once c.args.node c.args.list (omega arith) (omega arith) c.detach.new.cells c.detach.ensures c.attach.new.cells c.attach.ensures

@@ -3,16 +3,20 @@ use lib.ListN.{get_or-replicate}
 use Rattle.std.proofs.lemmas.List.{get_or_past, length-replicate}
 use Rattle.std.proofs.lemmas.Bool.{cases_lt, le-ltb}
 use Rattle.links.specs.Rows.{nth}
+use Rattle.queues.specs.declared.slots.ResidentSlot.{ResidentSlot}
 use Rattle.queues.specs.declared.state.SlotState.TheVariants.{Plain}
 use Rattle.queues.specs.State.{is_young}
 use Rattle.queues.proofs.Sound.{all_long}
 use Rattle.queues.proofs.residents.Residents.new.Goals as goal
 
-calm : (p : ℕ) → get_or (replicate 512 Plain) p Plain ≡ Plain
+abbrev slot : ResidentSlot
+slot = record { state = Plain; admitted = 0 }
+
+calm : (p : ℕ) → (get_or (replicate 512 slot) p slot).state ≡ Plain
 calm p =
     elim (cases_lt p 512) [
-      | inl h ↦ get_or-replicate 512 p Plain Plain h
-      | inr h ↦ get_or_past (replicate 512 Plain) p Plain (let l = length-replicate 512 Plain in omega arith)
+      | inl h ↦ ap (λ (r : ResidentSlot). r.state) (get_or-replicate 512 p slot slot h)
+      | inr h ↦ ap (λ (r : ResidentSlot). r.state) (get_or_past (replicate 512 slot) p slot (let l = length-replicate 512 slot in omega arith))
     ]
 
 pub invariant_of-result : goal.invariant_of-result
@@ -21,7 +25,7 @@ invariant_of-result c =
     let h = c.new.ensures.homes in
     let y = ap (λ (xss : List (List ℕ)). nth 0 xss) l in
     record {
-      sized = (refl, refl);
+      sized = refl;
       listed = λ p. rw (h p) (sym (le-ltb p 0 (omega arith)));
       counted = ap all_long l;
       sorted = λ p. ap is_young (calm p) ∙ sym (ap (λ (x : ℕ). eqb x 0) (h p));

@@ -4,7 +4,7 @@ use Rattle.queues.specs.Held.{parts_of}
 use Rattle.queues.proofs.Sound.{ghosts, sound_of, home_low, home_opened}
 use Rattle.queues.proofs.Moved.{placed, placed_restated, fronted_sound}
 use Rattle.queues.proofs.Located.{held_is, free_is, not_free}
-use Rattle.queues.proofs.Released.{released_parts, unreleased, resides_not, resides_so}
+use Rattle.queues.proofs.Released.{released_parts, unreleased, resides_so}
 use Rattle.queues.proofs.residents.Residents.release.Goals as goal
 
 pub bounds-self-place : goal.bounds-self-place
@@ -22,12 +22,10 @@ invariant_of-self c =
     (sound_of c.args.self.now) (home_opened s c.args.self.now.listed p (omega arith)) c.push_front.ensures.homes refl c.push_front.ensures.lists)
     c.args.self.now.«open»
 
-pub returns-in-Free : goal.returns-in-Free
-returns-in-Free c =
+pub returns-in-Free-clause-held : goal.returns-in-Free-clause-held
+returns-in-Free-clause-held c =
     let s = c.args.self.now.slots in
-    let p = c.args.place in
-    let free = sym c.in-Free.is ∙ c.location.ensures in
-    record { answer = resides_not p (parts_of s) free; held = unreleased s p (free_is s p free); window = refl }
+    unreleased s c.args.place (free_is s c.args.place (sym c.in-Free.is ∙ c.location.ensures))
 
 pub returns-in-Small : goal.returns-in-Small
 returns-in-Small c =

@@ -1,15 +1,27 @@
-use Rattle.std.proofs.Common.{◌∙◌, arith}
+use Rattle.std.proofs.Common.{◌≡◌, ℕ, ◌<◌, Some, None, ◌∙◌, sym, refl, arith, rules}
+use Rattle.std.proofs.lemmas.Option.{MatchOption-at_none, MatchOption-at_some}
+use Rattle.std.proofs.iter.Serving.{serving}
+use Rattle.machine.specs.Replacement.{ended, is_tail_used}
+use Rattle.queues.specs.Held.{parts_of}
+use Rattle.queues.specs.State.{was_used}
+use Rattle.queues.specs.Slots.{state_of}
 use Rattle.queues.proofs.Sound.{home_low}
-use Rattle.queues.proofs.Tail.{tail_home, tail_used_is}
+use Rattle.queues.proofs.Tail.{tail_home, tail_used_is, untailed_is}
 use Rattle.queues.proofs.residents.Residents.tail_used.Goals as goal
 
-pub used_at-requires : goal.used_at-requires
-used_at-requires c =
+pub is_some_and-requires : goal.is_some_and-requires
+is_some_and-requires c =
     let s = c.args.self.now.slots in
-    let h = tail_home s c.in-Some.place c.in-Some.ensures in
-    let l = home_low s c.in-Some.place (omega arith) in
-    let z = c.args.self.now.sized.0 in
-    omega arith
+    let low : (x : ℕ) → c.tail.result ≡ Some x → x < 512 = λ x e. let h = tail_home s x (sym e ∙ c.tail.ensures) in home_low s x (omega arith) in
+    grind (arith, serving)
 
-pub returns-in-Some : goal.returns-in-Some
-returns-in-Some c = c.used_at.ensures ∙ tail_used_is c.args.self.now.slots c.in-Some.place c.in-Some.ensures
+pub returns : goal.returns
+returns c =
+    let s = c.args.self.now.slots in
+    let none : c.tail.result ≡ None → c.is_some_and.result ≡ is_tail_used (ended (parts_of s).small) = λ e.
+    MatchOption-at_none _ _ e c.is_some_and.ensures ∙ untailed_is s (sym e ∙ c.tail.ensures) in
+    let some : (p : ℕ) → c.tail.result ≡ Some p → c.is_some_and.result ≡ is_tail_used (ended (parts_of s).small) = λ p e.
+    let f = MatchOption-at_some _ _ p e c.is_some_and.ensures in
+    let r : c.is_some_and.result ≡ was_used (state_of s p) = search rules in
+    r ∙ tail_used_is s p (sym e ∙ c.tail.ensures) in
+    (elim c.tail.result as (λ o. c.tail.result ≡ o → c.is_some_and.result ≡ is_tail_used (ended (parts_of s).small)) [ None ↦ none | Some p ↦ some p ]) refl

@@ -1,5 +1,3 @@
-use Rattle.std.proofs.Common.{sym, refl}
-use Rattle.std.proofs.lemmas.Bool.{lt-ltb}
 use Rattle.queues.proofs.Sound.{ghosts, sound_of}
 use Rattle.queues.proofs.Unlocked.{widened, unlocked_parts, unlocked_sound}
 use Rattle.queues.proofs.residents.Residents.unlock.Goals as goal
@@ -11,11 +9,7 @@ invariant_of-self c =
     (unlocked_sound s.window s c.push_front.new.self (sound_of c.args.self.now) c.if-self-lt512.true c.push_front.ensures.lists c.push_front.ensures.homes)
     c.args.self.now.«open»
 
-pub returns-then-self-lt512 : goal.returns-then-self-lt512
-returns-then-self-lt512 c =
+pub returns-then-self-lt512-clause-held : goal.returns-then-self-lt512-clause-held
+returns-then-self-lt512-clause-held c =
     let s = c.args.self.now.slots in
-    record {
-      answer = sym (lt-ltb s.opened 512 c.if-self-lt512.true);
-      held = unlocked_parts s.window s c.push_front.new.self (sound_of c.args.self.now) c.if-self-lt512.true c.push_front.ensures.lists;
-      window = refl;
-    }
+    unlocked_parts s.window s c.push_front.new.self (sound_of c.args.self.now) c.if-self-lt512.true c.push_front.ensures.lists
