@@ -87,10 +87,11 @@ module _ {X : Type 0} where
         seek_stop (λ y. alike (meaning y) (meaning x)) (length xs) xs (hash % length xs) (fingerprint hash) (length xs) 0
         (let r : rank (length xs) xs (hash % length xs + 0) ≡ 0 = ap rank_of (none_occupied xs ((hash % length xs + 0) % length xs) (s.1 ∙ z)) in omega arith)
 
-    pub sought_is : (home print : ℕ) (o : Option ℕ) → home ≡ hash % length xs → print ≡ fingerprint hash → o ≡ seek_from (λ y. alike (meaning y) (meaning x)) (length xs) xs home print (length xs - 0) 0 → sought meaning xs hash x ≡ o
-    sought_is home print o h p e =
+    pub sought_is : (ys : List (Slot X)) (home print : ℕ) (o : Option ℕ) → ys ≡ xs → home ≡ hash % length xs → print ≡ fingerprint hash → o ≡ seek_from (λ y. alike (meaning y) (meaning x)) (length ys) ys home print (length ys - 0) 0 → sought meaning xs hash x ≡ o
+    sought_is ys home print o over h p e =
         let z : length xs - 0 ≡ length xs = omega arith in
         sym (e
+        ∙ ap (λ (zs : List (Slot X)). seek_from (λ y. alike (meaning y) (meaning x)) (length zs) zs home print (length zs - 0) 0) over
         ∙ ap (λ (k : ℕ). seek_from (λ y. alike (meaning y) (meaning x)) (length xs) xs home print k 0) z
         ∙ ap (λ (k : ℕ). seek_from (λ y. alike (meaning y) (meaning x)) (length xs) xs k print (length xs) 0) h
         ∙ ap (λ (k : ℕ). seek_from (λ y. alike (meaning y) (meaning x)) (length xs) xs (hash % length xs) k (length xs) 0) p)
@@ -153,17 +154,13 @@ module _ {X : Type 0} where
         )
 
     -- the slot to empty, as the code finds it
-    pub remove_slot : (len e home : ℕ) → Sound xs len → (len ≡ 0 → ⊥) → home ≡ hash % length xs → sought meaning xs hash x ≡ Some e → (0 < len) × ((p : ℕ) → p ≡ (home + e) % length xs → (p < length xs) × (occupied xs < length xs) × (0 < rank (length xs) xs p) × (p % length xs ≡ (hash % length xs + e) % length xs))
-    remove_slot len e home s ne h is =
+    pub remove_slot : (ys : List (Slot X)) (len e home p : ℕ) → Sound xs len → (len ≡ 0 → ⊥) → ys ≡ xs → home ≡ hash % length xs → sought meaning xs hash x ≡ Some e → p ≡ (home + e) % length ys → (occupied xs < length xs) × (0 < rank (length xs) xs p) × (p % length xs ≡ (hash % length xs + e) % length xs)
+    remove_slot ys len e home p s ne over h is at =
         let n = length xs in
         let good = sound_some xs len s ne in
         let r = sound_ring xs len s good.0 good.1 in
         let f = found_at e good.1 is in
-        let k = erased_sound xs len (hash % n + e) vacant s r (omega (arith, f.1)) in (
-          k.0,
-          λ p at.
-              (let q : p % n ≡ (hash % n + e) % n = ap (λ (i : ℕ). i % n) at ∙ mod-mod (home + e) n ∙ ap (λ (i : ℕ). (i + e) % n) h in
-              let same = rank_same n xs p (hash % n + e) q in
-              let lt = mod-lt (home + e) good.1 in
-              (omega arith, r.room, omega (arith, f.1), q)),
-        )
+        let q : p % n ≡ (hash % n + e) % n =
+        ap (λ (i : ℕ). i % n) (at ∙ ap (λ (zs : List (Slot X)). (home + e) % length zs) over) ∙ mod-mod (home + e) n ∙ ap (λ (i : ℕ). (i + e) % n) h in
+        let same = rank_same n xs p (hash % n + e) q in
+        (r.room, omega (arith, f.1), q)

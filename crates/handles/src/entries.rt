@@ -2,9 +2,8 @@ ghost use Rattle.std.specs.Prelude.{◌≡◌, ℕ, ◌<◌, true, length};
 ghost use Rattle.handles.specs.Slots.{allowed, Local, occupied};
 ghost use Rattle.handles.specs.Shift.{inserted, cleared};
 
-use crate::probe::walk;
+use crate::probe::Probe;
 use crate::shift::push_forward;
-use crate::size::{home_of, print_of};
 use crate::slot::{EMPTY, Slot};
 
 /// Leaves every slot empty.
@@ -23,8 +22,8 @@ pub(crate) fn place<X: Copy>(slots: &mut [Slot<X>], hash: u64, handle: X)
     requires level { Local (length slots.old) slots.old }
     ensures { slots.new ≡ inserted slots.old hash handle }
 {
-    let home = home_of(slots.len(), hash);
-    let (slot, displacement) = walk(slots, home);
-    let meta = displacement * 256 + print_of(hash);
+    let probe = Probe::new(slots, hash);
+    let (slot, displacement) = probe.walk();
+    let meta = displacement * 256 + probe.print;
     push_forward(slots, slot, Slot { meta, handle });
 }

@@ -20,6 +20,7 @@ pub use kinds::{ListedHashes, MixedHashes, Place, SheetLine};
 pub use places::PlaceTable;
 pub use reader::Reader;
 pub use refusal::{Reserved, TableRefusal};
+pub use search::Alike;
 pub use size::measure;
 pub use slot::Slot;
 pub use table::Table;

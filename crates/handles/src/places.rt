@@ -59,7 +59,7 @@ impl PlaceTable {
 
     /// A reader of the candidates of a hash.
     pub fn get(&self, hash: u64) -> Reader<'_, Place>
-        ensures { to_come result.slots.now result.home result.print result.displacement ≡ candidates self.now.slots hash }
+        ensures { to_come result.probe.slots.now result.probe.home result.probe.print result.displacement ≡ candidates self.now.slots hash }
     {
         read_slots(&self.slots, self.len, hash)
     }

@@ -1,6 +1,6 @@
 use Rattle.std.proofs.Common.{sym}
 use Rattle.handles.proofs.Reading.{empty_candidates}
-use Rattle.handles.proofs.reader.read_slots.Goals as goal
+use Rattle.handles.proofs.probe.Probe.over.Goals as goal
 
 pub returns-then-len-eq0 : goal.returns-then-len-eq0
 returns-then-len-eq0 g c =
