@@ -5,7 +5,7 @@ mod calls;
 mod entries;
 mod handle;
 mod kinds;
-mod places;
+mod owned;
 mod probe;
 mod reader;
 mod refusal;
@@ -17,7 +17,7 @@ mod table;
 
 pub use handle::{Handle, Rehash, Sought};
 pub use kinds::{ListedHashes, MixedHashes, Place, SheetLine};
-pub use places::PlaceTable;
+pub use owned::{OwnedTable, PlaceTable};
 pub use reader::Reader;
 pub use refusal::{Reserved, TableRefusal};
 pub use search::Alike;
