@@ -154,7 +154,7 @@ module _ {X : Type 0} where
         )
 
     -- the slot to empty, as the code finds it
-    pub remove_slot : (ys : List (Slot X)) (len e home p : ℕ) → Sound xs len → (len ≡ 0 → ⊥) → ys ≡ xs → home ≡ hash % length xs → sought meaning xs hash x ≡ Some e → p ≡ (home + e) % length ys → (occupied xs < length xs) × (0 < rank (length xs) xs p) × (p % length xs ≡ (hash % length xs + e) % length xs)
+    pub remove_slot : (ys : List (Slot X)) (len e home p : ℕ) → Sound xs len → (len ≡ 0 → ⊥) → ys ≡ xs → home ≡ hash % length xs → sought meaning xs hash x ≡ Some e → p ≡ (home + e) % length ys → (0 < rank (length xs) xs p) × (p % length xs ≡ (hash % length xs + e) % length xs)
     remove_slot ys len e home p s ne over h is at =
         let n = length xs in
         let good = sound_some xs len s ne in
@@ -163,4 +163,4 @@ module _ {X : Type 0} where
         let q : p % n ≡ (hash % n + e) % n =
         ap (λ (i : ℕ). i % n) (at ∙ ap (λ (zs : List (Slot X)). (home + e) % length zs) over) ∙ mod-mod (home + e) n ∙ ap (λ (i : ℕ). (i + e) % n) h in
         let same = rank_same n xs p (hash % n + e) q in
-        (r.room, omega (arith, f.1), q)
+        (omega (arith, f.1), q)

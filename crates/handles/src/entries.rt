@@ -1,5 +1,5 @@
 ghost use Rattle.std.specs.Prelude.{◌≡◌, ℕ, ◌<◌, true, length};
-ghost use Rattle.handles.specs.Slots.{allowed, Local, occupied};
+ghost use Rattle.handles.specs.Slots.{Movable};
 ghost use Rattle.handles.specs.Shift.{inserted, cleared};
 
 use crate::probe::Probe;
@@ -17,9 +17,7 @@ pub(crate) fn empty_all<X: Copy>(slots: &mut [Slot<X>])
 
 /// Puts an entry where its walk stops, and moves the run there forward.
 pub(crate) fn place<X: Copy>(slots: &mut [Slot<X>], hash: u64, handle: X)
-    requires size { allowed (length slots.old) ≡ true }
-    requires vacancy { occupied slots.old < length slots.old }
-    requires level { Local (length slots.old) slots.old }
+    requires { Movable slots.old }
     ensures { slots.new ≡ inserted slots.old hash handle }
 {
     let probe = Probe::new(slots, hash);

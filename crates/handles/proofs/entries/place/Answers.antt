@@ -9,7 +9,7 @@ push_forward-requires-clause-carries g c =
     let w = c.walk-slot in
     place_carries c.args.slots.now p.result.slots.now c.args.hash p.result.home w.result.0 w.result.1 p.result.print c.args.handle
     p.ensures.slots p.ensures.home p.ensures.print w.ensures.displacement w.ensures.slot
-    (ring_made c.args.slots.now c.requires.size c.requires.vacancy c.requires.level)
+    (ring_made c.args.slots.now c.requires)
 
 pub returns : goal.returns
 returns g c =
