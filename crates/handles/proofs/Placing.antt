@@ -2,7 +2,7 @@
 use Rattle.std.proofs.Common.{◌≡◌, ℕ, zero, suc, ◌+◌, ◌-◌, ◌*◌, ◌/◌, ◌%◌, ◌^◌, ◌<◌, ◌≤◌, true, cond, eqb, List, [], ◌∷◌, length, get_or, replicate, sym, refl, ap, ◌∙◌, subst, inl, inr, mod-lt, mod-eq_of_lt, arith}
 use native.Mathlib.Nat.{add-mod_right, mod-mod}
 use Rattle.std.proofs.lemmas.Bool.{cases_eq}
-use Rattle.handles.specs.Slots.{rank, rank_of, meta_of, occupied, Local, Movable, Sound, allowed, room, empty, weigh_from, weigh, weight, meta_at, fingerprint, home_of}
+use Rattle.handles.specs.Slots.{rank, rank_of, meta_of, occupied, Local, Sound, allowed, room, empty, weigh_from, weigh, weight, meta_at, fingerprint, home_of}
 use Rattle.handles.specs.Walk.{stop}
 use Rattle.handles.specs.Carry.{Carries}
 use Rattle.handles.specs.Shift.{run, pushed, inserted, erased, away, cleared}
@@ -236,9 +236,3 @@ module _ {X : Type 0} where
     vacant_occupied n x,
     omega arith,
   )
-
-  pub sound_movable : (xs : List (Slot X)) (len : ℕ) → Sound xs len → (len ≡ 0 → ⊥) → Movable xs
-  sound_movable xs len s ne =
-      let some = sound_some xs len s ne in
-      let r = sound_ring xs len s some.0 some.1 in
-      record { size = some.0; vacancy = r.room; level = s.0 }

@@ -14,7 +14,8 @@ use crate::search::find_slots;
 use crate::size::capacity_of;
 use crate::slot::Slot;
 
-/// A multimap from hashes to handles that keeps its slots itself.
+/// A multimap from hashes to handles that keeps its slots itself. Its calls and a `Table`'s are the same functions over a
+/// slice: a trait over both owners would say for each what a lent `&mut` leaves, and spare no body.
 #[derive(Drop)]
 pub struct OwnedTable<X, const N: usize> {
     slots: [Slot<X>; N],

@@ -84,6 +84,7 @@ impl<'a, X: Copy> Probe<'a, X> {
         let mask = slots.len() - 1;
         let mut slot = self.home;
         let mut displacement = 0;
+        // The slot goes round beside the displacement, and both are the answer, so the loop is no range.
         'probe: loop {
             if rank(slots[slot].meta) <= displacement {
                 break (slot, displacement);

@@ -17,6 +17,7 @@ pub(crate) fn push_forward<X: Copy>(slots: &mut [Slot<X>], at: usize, entry: Slo
     let mask = slots.len() - 1;
     let mut slot = at;
     let mut carried = entry;
+    // Round the ring, up to what stands in the slots, so by no range.
     'run: loop {
         let displaced = slots[slot];
         slots[slot] = carried;
@@ -40,6 +41,7 @@ pub(crate) fn pull_back<X: Copy>(slots: &mut [Slot<X>], at: usize)
 {
     let mask = slots.len() - 1;
     let mut hole = at;
+    // Round the ring, up to what stands in the slots, so by no range.
     'run: loop {
         let next = (hole + 1) & mask;
         let follower = slots[next];

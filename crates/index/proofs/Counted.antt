@@ -93,7 +93,7 @@ sought_filed t hash place =
 
 none_taken : (xs ys : List (Slot Place)) (hash : ℕ) (x : Place) (o : Option ℕ) → ys ≡ taken_out xs hash x o → is_some o ≡ false → ys ≡ xs
 none_taken xs ys hash x None e f = e
-none_taken xs ys hash x (Some d) e f = absurd (let z : ◌≡◌ {A = ℕ} 0 1 = cc in omega arith)
+none_taken xs ys hash x (Some d) e f = absurd (cc)
 
 pub table_unfiles : (t u : OwnedTable Place 1024) (hash place : ℕ) (r : Bool) → Removes place_meaning t.slots hash (record { 0 = place }) r u.slots → Unfiles (over t) hash place r (over u)
 table_unfiles t u hash place r m =

@@ -1,6 +1,5 @@
 use Rattle.std.proofs.Common.{Some, None, sym, ◌∙◌}
 use Rattle.handles.specs.Slots.{empty}
-use Rattle.handles.proofs.Placing.{sound_movable}
 use Rattle.handles.proofs.Calling.{remove_none, sought_empty, sought_is, remove_made, remove_slot}
 use Rattle.handles.proofs.calls.remove_slots.Goals as goal
 
@@ -15,9 +14,6 @@ returns-in_default-clause-removes g c =
     remove_none g.X.Handle.meaning c.args.slots.now c.args.hash c.args.handle
     (sought_is g.X.Handle.meaning c.args.slots.now c.args.hash c.args.handle p.result.slots.now p.result.home p.result.print None
     p.ensures.slots p.ensures.home p.ensures.print (sym c.in_default.is ∙ c.seek.ensures.value))
-
-pub pull_back-requires-clause-movable : goal.pull_back-requires-clause-movable
-pull_back-requires-clause-movable g c = sound_movable c.args.slots.now c.args.len.now c.requires c.if-len-eq0.false
 
 pub pull_back-requires-clause-taken : goal.pull_back-requires-clause-taken
 pull_back-requires-clause-taken g c =

@@ -1,18 +1,10 @@
-use Rattle.std.proofs.Common.{◌+◌, ◌-◌, ◌<◌, ◌≤◌, length, refl, ◌∙◌, mod-lt, arith, rules}
+use Rattle.std.proofs.Common.{◌+◌, ◌-◌, ◌<◌, ◌≤◌, length, ◌∙◌, mod-lt, arith, rules}
 use lib.Bits.{bit_and}
 use Rattle.handles.specs.Slots.{rank_of}
 use Rattle.handles.proofs.Ring.{masked}
-use Rattle.handles.proofs.Pushing.{ring_made, ring_pos}
+use Rattle.handles.proofs.Pushing.{ring_pos}
 use Rattle.handles.proofs.Pulling.{pull_turn, pull_last}
 use Rattle.handles.proofs.shift.pull_back.Goals as goal
-
-pub run-init : goal.run-init
-run-init g c = (
-  ring_made c.args.slots.now c.requires.movable,
-  c.requires.taken,
-  c.requires.within,
-  λ d. refl,
-)
 
 pub offset_bounds-slots-next : goal.offset_bounds-slots-next
 offset_bounds-slots-next g c =

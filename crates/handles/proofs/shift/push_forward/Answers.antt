@@ -1,15 +1,7 @@
-use Rattle.std.proofs.Common.{◌+◌, length, refl, ◌∙◌}
+use Rattle.std.proofs.Common.{◌+◌, length, ◌∙◌}
 use Rattle.handles.proofs.Ring.{masked}
-use Rattle.handles.proofs.Pushing.{ring_made, ring_pos, push_turn, push_last, push_fits}
+use Rattle.handles.proofs.Pushing.{ring_pos, push_turn, push_last, push_fits}
 use Rattle.handles.proofs.shift.push_forward.Goals as goal
-
-pub run-init : goal.run-init
-run-init g c = (
-  ring_made c.args.slots.now c.requires.movable,
-  c.requires.carries,
-  c.requires.within,
-  refl,
-)
 
 pub overflow_add-carried : goal.overflow_add-carried
 overflow_add-carried g c =

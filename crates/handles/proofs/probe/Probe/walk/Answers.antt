@@ -31,8 +31,12 @@ probe-preserved g c =
       sym (stop_on n xs home d short here) ∙ c.probe.invariant.2,
     )
 
-pub returns : goal.returns
-returns g c =
+pub returns-clause-short : goal.returns-clause-short
+returns-clause-short g c =
+    passed_short (length c.args.self.now.slots.now) c.args.self.now.slots.now c.args.self.now.home c.probe.displacement refl c.requires c.probe.invariant.0
+
+pub returns-clause-displacement : goal.returns-clause-displacement
+returns-clause-displacement g c =
     let n = length c.args.self.now.slots.now in
     let xs = c.args.self.now.slots.now in
     let home = c.args.self.now.home in
@@ -40,8 +44,4 @@ returns g c =
     let pos : 0 < n = (let h = c.requires in omega arith) in
     let read = rank_read n xs (home + d) c.probe.slot c.index-slots-slot.result refl pos c.probe.invariant.1 in
     let here : rank n xs (home + d) ≤ d = (let l = c.if-rank-displacement.true in let e = c.rank.ensures in omega arith) in
-    record {
-      short = passed_short n xs home d refl c.requires c.probe.invariant.0;
-      displacement = sym (stop_here n xs home (n - d) d here) ∙ c.probe.invariant.2;
-      slot = c.probe.invariant.1;
-    }
+    sym (stop_here n xs home (n - d) d here) ∙ c.probe.invariant.2
