@@ -13,7 +13,7 @@ use Rattle.handles.proofs.Vacancy.{climb, rank_pos}
 use Rattle.handles.proofs.Weighing.{weight_full, weight_empty}
 use Rattle.handles.proofs.Pushing.{Ring, ring_pos, ring_low}
 use Rattle.handles.proofs.Placing.{meta_parts, home_back}
-use Rattle.handles.proofs.Calling.{eqb_is}
+use Rattle.std.proofs.lemmas.Bool.{eqb-true}
 use Rattle.handles.proofs.Candidates.{cands_stop, cands_pass, pick_read}
 use Rattle.handle_laws.specs.Runs.{how_many, times_read}
 use Rattle.handle_laws.proofs.Sums.{sum_from, sum_round, sum_same, sum_none, sum_shift, sum_suc}
@@ -107,8 +107,8 @@ module _ {X : Type 0} where
           | inr t ↦
               both_false (eqb (home_of n ((home + d) % n) y.meta) home) (eqb (y.meta % 256) print) (alike (meaning y.handle) m)
               (λ a b. t.1
-              (let k = home_only n home d (y.meta / 256) hn dn low (eqb_is (home_of n ((home + d) % n) y.meta) home a) in
-              let p = eqb_is (y.meta % 256) print b in
+              (let k = home_only n home d (y.meta / 256) hn dn low (eqb-true (home_of n ((home + d) % n) y.meta) home a) in
+              let p = eqb-true (y.meta % 256) print b in
               omega arith))
               ∙ ap (λ b. cond b (one (alike (meaning y.handle) m)) 0) (sym t.0)
         ]

@@ -79,9 +79,6 @@ module _ {X : Type 0} (meaning : X → List ℕ) where
   Stands hash m [] = ⊥
   Stands hash m (e ∷ es) = ((e.hash ≡ hash) × (meaning e.handle ≡ m)) ⊎ Stands hash m es
 
-  true_false : (b : Bool) → b ≡ true → b ≡ false → ⊥
-  true_false b t f = let z : ◌≡◌ {A = ℕ} 0 1 = (let q : true ≡ false = sym t ∙ f in cc) in omega arith
-
   stands_drop : (n g hash : ℕ) (k m : List ℕ) (es : List (Entry X)) → (k ≡ m → ⊥) → Stands hash m es → Stands hash m (drop_first (fits_entry meaning n g k) es)
   stands_drop n g hash k m [] ne s = s
   stands_drop n g hash k m (e ∷ es) ne (inl s) =

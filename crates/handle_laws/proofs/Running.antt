@@ -85,7 +85,7 @@ module _ {X : Type 0} (meaning : X → List ℕ) where
 
   pub good_some : (xs : List (Slot X)) (n : ℕ) (es : List (Entry X)) (hash : ℕ) (x : X) (d : ℕ) → Good xs n es → sought meaning xs hash x ≡ Some d → 0 < how_many (fits_entry meaning n hash (meaning x)) es
   good_some xs n [] hash x d g e =
-      absurd (let f = sought_empty meaning xs hash x 0 g.sound refl in let z : ◌≡◌ {A = ℕ} 0 1 = cc in omega arith)
+      absurd (let f = sought_empty meaning xs hash x 0 g.sound refl in cc)
   good_some xs n (y ∷ es) hash x d g e =
       let f = sought_says xs n y es hash x g ∙ ap (handle_at (length xs) xs (hash % length xs) (fingerprint hash) (record { meta = 0; handle = x })) e in
       let z = first_some (λ y. alike (meaning y) (meaning x)) (candidates xs hash) _ f in
@@ -96,7 +96,7 @@ module _ {X : Type 0} (meaning : X → List ℕ) where
   good_remove_at xs n es hash x None e g =
       subst (λ zs. Good xs n zs) (sym (drop_none (fits_entry meaning n hash (meaning x)) es (good_none xs n es hash x g e))) g
   good_remove_at xs n [] hash x (Some d) e g =
-      absurd (let f = sought_empty meaning xs hash x 0 g.sound refl in let z : ◌≡◌ {A = ℕ} 0 1 = cc in omega arith)
+      absurd (let f = sought_empty meaning xs hash x 0 g.sound refl in cc)
   good_remove_at xs n (y ∷ es) hash x (Some d) e g =
       let r = good_ring xs n y es g in
       let f = found_at meaning xs hash x d (ring_pos (length xs) xs r) e in
@@ -174,15 +174,15 @@ module _ {X : Type 0} (meaning : X → List ℕ) where
   pub rebuilds_room : (c entries wanted k : ℕ) → did_rebuild (reserve_answer_lem c entries wanted k) ≡ true → entries ≤ room k
   rebuilds_room c entries wanted k e =
       (elim (leb (entries + wanted) c) as (λ b. did_rebuild (cond b (Ok Room) (cond (allowed k) (cond (leb (entries + wanted) (room k)) (Ok Rebuilt) (Err (TooFewSlots (room k) entries wanted))) (Err (SlotCount k)))) ≡ true → entries ≤ room k) [
-        | true ↦ λ q. absurd (let z : ◌≡◌ {A = ℕ} 0 1 = cc in omega arith)
+        | true ↦ λ q. absurd (cc)
         | false ↦
             elim (allowed k) as (λ b. did_rebuild (cond b (cond (leb (entries + wanted) (room k)) (Ok Rebuilt) (Err (TooFewSlots (room k) entries wanted))) (Err (SlotCount k))) ≡ true → entries ≤ room k) [
               | true ↦
                   λ q. elim (leb_tells (entries + wanted) (room k)) [
                     | inl t ↦ omega (arith, t.1)
-                    | inr t ↦ absurd (let z : did_rebuild (cond false (Ok Rebuilt) (Err (TooFewSlots (room k) entries wanted))) ≡ true = ap (λ b. did_rebuild (cond b (Ok Rebuilt) (Err (TooFewSlots (room k) entries wanted)))) (sym t.0) ∙ q in let y : ◌≡◌ {A = ℕ} 0 1 = cc in omega arith)
+                    | inr t ↦ absurd (let z : did_rebuild (cond false (Ok Rebuilt) (Err (TooFewSlots (room k) entries wanted))) ≡ true = ap (λ b. did_rebuild (cond b (Ok Rebuilt) (Err (TooFewSlots (room k) entries wanted)))) (sym t.0) ∙ q in cc)
                   ]
-              | false ↦ λ q. absurd (let z : ◌≡◌ {A = ℕ} 0 1 = cc in omega arith)
+              | false ↦ λ q. absurd (cc)
             ]
       ]) e
 

@@ -4,7 +4,8 @@ use Rattle.handles.specs.Meaning.{alike}
 use Rattle.handles.specs.Slots.{fingerprint}
 use Rattle.handles.specs.Seek.{first_by}
 use Rattle.handles.proofs.Meaning.{alike_decides}
-use Rattle.handles.proofs.Calling.{and_left, and_right, eqb_is}
+use Rattle.handles.proofs.Calling.{and_left, and_right}
+use Rattle.std.proofs.lemmas.Bool.{eqb-true}
 use Rattle.handle_laws.specs.Runs.{Entry, fits_entry, same_spot, drop_first, how_many}
 use Rattle.handle_laws.proofs.Counting.{one}
 
@@ -20,12 +21,12 @@ pub first_none : {A : Type 0} (ok : A → Bool) (xs : List A) → first_by ok xs
 first_none ok [] e = refl
 first_none ok (x ∷ xs) e =
     (elim (ok x) as (λ b. cond b (Some x) (first_by ok xs) ≡ None → cond b 1 0 + how_many ok xs ≡ 0) [
-      | true ↦ λ q. absurd (let z : ◌≡◌ {A = ℕ} 0 1 = cc in omega arith)
+      | true ↦ λ q. absurd (cc)
       | false ↦ λ q. (let ih = first_none ok xs q in omega arith)
     ]) e
 
 pub first_some : {A : Type 0} (ok : A → Bool) (xs : List A) (y : A) → first_by ok xs ≡ Some y → 0 < how_many ok xs
-first_some ok [] y e = absurd (let z : ◌≡◌ {A = ℕ} 0 1 = cc in omega arith)
+first_some ok [] y e = absurd (cc)
 first_some ok (x ∷ xs) y e =
     (elim (ok x) as (λ b. cond b (Some x) (first_by ok xs) ≡ Some y → 0 < cond b 1 0 + how_many ok xs) [
       | true ↦ λ q. omega arith
@@ -67,8 +68,8 @@ module _ {X : Type 0} (meaning : X → List ℕ) where
   fits_weight n hash m w e t =
       let spots = and_left (same_spot n e.hash hash) (alike (meaning e.handle) m) t in
       let means = and_right (same_spot n e.hash hash) (alike (meaning e.handle) m) t in
-      let h = eqb_is (e.hash % n) (hash % n) (and_left (eqb (e.hash % n) (hash % n)) (eqb (fingerprint e.hash) (fingerprint hash)) spots) in
-      let p = eqb_is (fingerprint e.hash) (fingerprint hash) (and_right (eqb (e.hash % n) (hash % n)) (eqb (fingerprint e.hash) (fingerprint hash)) spots) in
+      let h = eqb-true (e.hash % n) (hash % n) (and_left (eqb (e.hash % n) (hash % n)) (eqb (fingerprint e.hash) (fingerprint hash)) spots) in
+      let p = eqb-true (fingerprint e.hash) (fingerprint hash) (and_right (eqb (e.hash % n) (hash % n)) (eqb (fingerprint e.hash) (fingerprint hash)) spots) in
       let k = (alike_decides (meaning e.handle) m).0 means in
       ap (λ (z : ℕ). w z (fingerprint e.hash) (meaning e.handle)) h
       ∙ ap (λ (z : ℕ). w (hash % n) z (meaning e.handle)) p

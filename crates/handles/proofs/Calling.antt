@@ -1,8 +1,8 @@
 -- What an insertion and a removal answer and leave, from what the code did.
 use Rattle.std.proofs.Common.{◌≡◌, ℕ, suc, ◌+◌, ◌-◌, ◌/◌, ◌%◌, ◌<◌, ◌≤◌, Bool, true, false, cond, ◌&&◌, eqb, List, length, get_or, is_some, Some, None, Ok, Err, Option, sym, refl, ap, ◌∙◌, subst, inl, inr, mod-lt, arith}
 use native.Mathlib.Nat.{mod-mod}
-use Rattle.std.proofs.lemmas.Bool.Decides.{leb_tells, eqb_tells}
-use Rattle.std.proofs.lemmas.Bool.{cases_eq}
+use Rattle.std.proofs.lemmas.Bool.Decides.{leb_tells}
+use Rattle.std.proofs.lemmas.Bool.{cases_eq, eqb-true, ltb-true, lt-ltb}
 use Rattle.handles.specs.Meaning.{alike}
 use Rattle.handles.specs.Slots.{rank, rank_of, occupied, room, Sound, fingerprint, meta_at, weigh, weight, home_of, empty}
 use Rattle.handles.specs.Shift.{inserted, erased, pulled, away}
@@ -27,24 +27,17 @@ and_left false b e = e
 
 pub and_right : (a b : Bool) → (a && b) ≡ true → b ≡ true
 and_right true b e = e
-and_right false b e = absurd (let z : ◌≡◌ {A = ℕ} 0 1 = cc in omega arith)
-
-pub eqb_is : (a b : ℕ) → eqb a b ≡ true → a ≡ b
-eqb_is a b e = elim (eqb_tells a b) [ inl t ↦ t.1 | inr t ↦ absurd (let z : ◌≡◌ {A = ℕ} 0 1 = (let f : true ≡ false = sym e ∙ t.0 in cc) in omega arith) ]
+and_right false b e = absurd (cc)
 
 module _ {X : Type 0} where
   pub roomy_true : (xs : List (Slot X)) (len : ℕ) → occupied xs ≡ len → len < room (length xs) → roomy xs ≡ true
-  roomy_true xs len e h = elim (leb_tells (suc (occupied xs)) (room (length xs))) [ inl t ↦ t.0 | inr t ↦ absurd (omega (arith, t.1)) ]
+  roomy_true xs len e h = lt-ltb (occupied xs) (room (length xs)) (omega arith)
 
   pub roomy_false : (xs : List (Slot X)) (len : ℕ) → occupied xs ≡ len → room (length xs) ≤ len → roomy xs ≡ false
   roomy_false xs len e h = elim (leb_tells (suc (occupied xs)) (room (length xs))) [ inl t ↦ absurd (omega (arith, t.1)) | inr t ↦ t.0 ]
 
   pub roomy_says : (xs : List (Slot X)) → roomy xs ≡ true → occupied xs < room (length xs)
-  roomy_says xs e =
-      elim (leb_tells (suc (occupied xs)) (room (length xs))) [
-        | inl t ↦ t.1
-        | inr t ↦ absurd (let z : ◌≡◌ {A = ℕ} 0 1 = (let f : true ≡ false = sym e ∙ t.0 in cc) in omega arith)
-      ]
+  roomy_says xs e = ltb-true (occupied xs) (room (length xs)) e
 
   pub insert_made : (xs : List (Slot X)) (len cap hash : ℕ) (x : X) (ys : List (Slot X)) → Sound xs len → cap ≡ room (length xs) → (len ≡ cap → ⊥) → ys ≡ inserted xs hash x → Inserts xs hash x (Ok tt) ys × Sound ys (len + 1)
   insert_made xs len cap hash x ys s e ne is =
@@ -59,15 +52,6 @@ module _ {X : Type 0} where
         subst (λ (zs : List (Slot X)). Sound zs (len + 1)) (sym is) (inserted_sound xs len hash x s lt),
       )
 
-  pub insert_refused : (xs : List (Slot X)) (len cap hash : ℕ) (x : X) → Sound xs len → cap ≡ room (length xs) → len ≡ cap → Inserts xs hash x (Err (Full cap)) xs
-  insert_refused xs len cap hash x s e full =
-      let f = roomy_false xs len s.1 (omega arith) in
-      record {
-        answer = ap (λ (k : ℕ). Err (Full k)) e ∙ ap (λ b. cond b (Ok tt) (Err (Full (room (length xs))))) (sym f);
-        slots = ap (λ b. cond b (inserted xs hash x) xs) (sym f);
-        weighs = λ w t. absurd (let z : ◌≡◌ {A = ℕ} 0 1 = (let g : true ≡ false = sym t ∙ f in cc) in omega arith);
-      }
-
   pub erased_same : (xs : List (Slot X)) (p q : ℕ) (d : Slot X) → p % length xs ≡ q % length xs → erased xs p d ≡ erased xs q d
   erased_same xs p q d e =
       pulled_same (length xs) xs p q (away (length xs) xs (p + 1)) d e
@@ -79,7 +63,7 @@ module _ {X : Type 0} where
         record {
           answer = ap is_some (sym e);
           slots = ap (taken_out xs hash x) (sym e);
-          weighs = λ w t. absurd (let z : ◌≡◌ {A = ℕ} 0 1 = cc in omega arith);
+          weighs = λ w t. absurd (cc);
         }
 
     pub sought_empty : (len : ℕ) → Sound xs len → len ≡ 0 → sought meaning xs hash x ≡ None
@@ -87,10 +71,11 @@ module _ {X : Type 0} where
         seek_stop (λ y. alike (meaning y) (meaning x)) (length xs) xs (hash % length xs) (fingerprint hash) (length xs) 0
         (let r : rank (length xs) xs (hash % length xs + 0) ≡ 0 = ap rank_of (none_occupied xs ((hash % length xs + 0) % length xs) (s.1 ∙ z)) in omega arith)
 
-    pub sought_is : (home print : ℕ) (o : Option ℕ) → home ≡ hash % length xs → print ≡ fingerprint hash → o ≡ seek_from (λ y. alike (meaning y) (meaning x)) (length xs) xs home print (length xs - 0) 0 → sought meaning xs hash x ≡ o
-    sought_is home print o h p e =
+    pub sought_is : (ys : List (Slot X)) (home print : ℕ) (o : Option ℕ) → ys ≡ xs → home ≡ hash % length xs → print ≡ fingerprint hash → o ≡ seek_from (λ y. alike (meaning y) (meaning x)) (length ys) ys home print (length ys - 0) 0 → sought meaning xs hash x ≡ o
+    sought_is ys home print o over h p e =
         let z : length xs - 0 ≡ length xs = omega arith in
         sym (e
+        ∙ ap (λ (zs : List (Slot X)). seek_from (λ y. alike (meaning y) (meaning x)) (length zs) zs home print (length zs - 0) 0) over
         ∙ ap (λ (k : ℕ). seek_from (λ y. alike (meaning y) (meaning x)) (length xs) xs home print k 0) z
         ∙ ap (λ (k : ℕ). seek_from (λ y. alike (meaning y) (meaning x)) (length xs) xs k print (length xs) 0) h
         ∙ ap (λ (k : ℕ). seek_from (λ y. alike (meaning y) (meaning x)) (length xs) xs (hash % length xs) k (length xs) 0) p)
@@ -109,7 +94,7 @@ module _ {X : Type 0} where
         let y = get_or xs ((hash % n + e) % n) vacant in (
           omega (arith, f.1),
           f.2,
-          eqb_is y.meta (meta_at (fingerprint hash) e) (and_left (eqb y.meta (meta_at (fingerprint hash) e)) (ok y.handle) f.3),
+          eqb-true y.meta (meta_at (fingerprint hash) e) (and_left (eqb y.meta (meta_at (fingerprint hash) e)) (ok y.handle) f.3),
           (alike_decides (meaning y.handle) (meaning x)).0 (and_right (eqb y.meta (meta_at (fingerprint hash) e)) (ok y.handle) f.3),
         )
 
@@ -153,17 +138,13 @@ module _ {X : Type 0} where
         )
 
     -- the slot to empty, as the code finds it
-    pub remove_slot : (len e home : ℕ) → Sound xs len → (len ≡ 0 → ⊥) → home ≡ hash % length xs → sought meaning xs hash x ≡ Some e → (0 < len) × ((p : ℕ) → p ≡ (home + e) % length xs → (p < length xs) × (occupied xs < length xs) × (0 < rank (length xs) xs p) × (p % length xs ≡ (hash % length xs + e) % length xs))
-    remove_slot len e home s ne h is =
+    pub remove_slot : (ys : List (Slot X)) (len e home p : ℕ) → Sound xs len → (len ≡ 0 → ⊥) → ys ≡ xs → home ≡ hash % length xs → sought meaning xs hash x ≡ Some e → p ≡ (home + e) % length ys → (0 < rank (length xs) xs p) × (p % length xs ≡ (hash % length xs + e) % length xs)
+    remove_slot ys len e home p s ne over h is at =
         let n = length xs in
         let good = sound_some xs len s ne in
         let r = sound_ring xs len s good.0 good.1 in
         let f = found_at e good.1 is in
-        let k = erased_sound xs len (hash % n + e) vacant s r (omega (arith, f.1)) in (
-          k.0,
-          λ p at.
-              (let q : p % n ≡ (hash % n + e) % n = ap (λ (i : ℕ). i % n) at ∙ mod-mod (home + e) n ∙ ap (λ (i : ℕ). (i + e) % n) h in
-              let same = rank_same n xs p (hash % n + e) q in
-              let lt = mod-lt (home + e) good.1 in
-              (omega arith, r.room, omega (arith, f.1), q)),
-        )
+        let q : p % n ≡ (hash % n + e) % n =
+        ap (λ (i : ℕ). i % n) (at ∙ ap (λ (zs : List (Slot X)). (home + e) % length zs) over) ∙ mod-mod (home + e) n ∙ ap (λ (i : ℕ). (i + e) % n) h in
+        let same = rank_same n xs p (hash % n + e) q in
+        (omega (arith, f.1), q)

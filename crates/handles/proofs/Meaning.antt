@@ -1,14 +1,14 @@
 -- The test of two meanings says yes exactly when they are equal.
-use Rattle.std.proofs.Common.{◌≡◌, ℕ, Bool, ◌&&◌, eqb, List, [], ◌∷◌, Decides, refl, ap, ◌∙◌, arith}
+use Rattle.std.proofs.Common.{◌≡◌, ℕ, Bool, ◌&&◌, eqb, List, [], ◌∷◌, Decides, refl, ap, ◌∙◌}
 use Rattle.std.proofs.lemmas.Bool.Decides.{same_from_decides, Decides-and, Decides-eqb, Decides-like}
 use Rattle.handles.specs.Meaning.{alike}
 
 pub alike_decides : (xs ys : List ℕ) → Decides (alike xs ys) (xs ≡ ys)
 alike_decides [] [] = ((λ _. refl), (λ _. refl))
 alike_decides [] (y ∷ ys) =
-    ((λ e. absurd (let z : ◌≡◌ {A = ℕ} 0 1 = cc in omega arith)), (λ e. absurd (let z : ◌≡◌ {A = ℕ} 0 1 = cc in omega arith)))
+    ((λ e. absurd (cc)), (λ e. absurd (cc)))
 alike_decides (x ∷ xs) [] =
-    ((λ e. absurd (let z : ◌≡◌ {A = ℕ} 0 1 = cc in omega arith)), (λ e. absurd (let z : ◌≡◌ {A = ℕ} 0 1 = cc in omega arith)))
+    ((λ e. absurd (cc)), (λ e. absurd (cc)))
 alike_decides (x ∷ xs) (y ∷ ys) =
     Decides-like (eqb x y && alike xs ys)
     (λ p. ap (λ z. z ∷ xs) p.0 ∙ ap (λ zs. y ∷ zs) p.1)

@@ -116,7 +116,7 @@ module _ {X : Type 0} where
       let b = room_below (length xs) pos in
       let c = s.1 in
       let d = s.2 in
-      ring_made xs a (omega arith) s.0
+      ring_made xs (record { size = a; vacancy = omega arith; level = s.0 })
 
   pub roomy_ring : (xs : List (Slot X)) (len k : ℕ) → Sound xs len → k < room (length xs) → Ring (length xs) xs
   roomy_ring xs len k s h =
@@ -185,21 +185,17 @@ module _ {X : Type 0} where
     omega arith,
   )
 
-  -- a walk stops within one round
-  pub stop_short : (n : ℕ) (xs : List (Slot X)) (home : ℕ) → Ring n xs → stop n xs home < n
-  stop_short n xs home r = passed_short n xs home (stop n xs home) r.len r.room (stops n xs home r.len r.room).0
-
-  module _ (xs : List (Slot X)) (hash home slot d print : ℕ) (x : X) (at_home : home ≡ hash % length xs) (stopped : d ≡ stop (length xs) xs home) (at_slot : slot ≡ (home + d) % length xs) (printed : print ≡ fingerprint hash) where
+  module _ (xs ys : List (Slot X)) (hash home slot d print : ℕ) (x : X) (over : ys ≡ xs) (at_home : home ≡ hash % length xs) (printed : print ≡ fingerprint hash) (stopped : d ≡ stop (length ys) ys home) (at_slot : slot ≡ (home + d) % length ys) where
     slot_same : (hash % length xs + stop (length xs) xs (hash % length xs)) % length xs ≡ slot % length xs
     slot_same =
-        sym (ap (λ (k : ℕ). k % length xs) at_slot
+        sym (ap (λ (k : ℕ). k % length xs) (at_slot ∙ ap (λ (zs : List (Slot X)). (home + d) % length zs) over)
         ∙ mod-mod (home + d) (length xs)
-        ∙ ap (λ (k : ℕ). (home + k) % length xs) stopped
+        ∙ ap (λ (k : ℕ). (home + k) % length xs) (stopped ∙ ap (λ (zs : List (Slot X)). stop (length zs) zs home) over)
         ∙ ap (λ (k : ℕ). (k + stop (length xs) xs k) % length xs) at_home)
 
     meta_same : meta_at (fingerprint hash) (stop (length xs) xs (hash % length xs)) ≡ d * 256 + print
     meta_same =
-        sym (ap (λ (k : ℕ). k * 256 + print) (stopped ∙ ap (stop (length xs) xs) at_home)
+        sym (ap (λ (k : ℕ). k * 256 + print) (stopped ∙ ap (λ (zs : List (Slot X)). stop (length zs) zs home) over ∙ ap (stop (length xs) xs) at_home)
         ∙ ap (λ (k : ℕ). stop (length xs) xs (hash % length xs) * 256 + k) printed)
 
     -- what a walk found, as the code has it, is where the entry may stand
@@ -208,14 +204,6 @@ module _ {X : Type 0} where
         subst (λ (m : ℕ). Carries (length xs) xs slot (record { meta = m; handle = x })) meta_same
         (carries_same (length xs) xs (hash % length xs + stop (length xs) xs (hash % length xs)) slot (record { meta = meta_at (fingerprint hash) (stop (length xs) xs (hash % length xs)); handle = x }) slot_same
         (stop_carries (length xs) xs (hash % length xs) (fingerprint hash) x r (print_below hash)))
-
-    pub place_fits : Ring (length xs) xs → (d < 4096) × (print < 256) × (slot < length xs)
-    place_fits r =
-        let s = stop_short (length xs) xs home r in
-        let h = r.high in
-        let p = print_below hash in
-        let m = mod-lt (home + d) (ring_pos (length xs) xs r) in
-        (omega arith, omega arith, omega arith)
 
     pub place_is : pushed (length xs) xs slot (run (length xs) xs slot) (record { meta = d * 256 + print; handle = x }) ≡ inserted xs hash x
     place_is =

@@ -1,10 +1,10 @@
 -- The run moved forward: each write keeps the table sound, the run ends at an empty slot, and one entry is gained.
-use Rattle.std.proofs.Common.{◌≡◌, ℕ, zero, suc, ◌+◌, ◌-◌, ◌/◌, ◌%◌, ◌^◌, ◌<◌, ◌≤◌, true, cond, eqb, List, length, get_or, set, sym, refl, ap, ◌∙◌, subst, inl, inr, mod-lt, mod-eq_of_lt, arith, length-set}
+use Rattle.std.proofs.Common.{◌≡◌, ℕ, zero, suc, ◌+◌, ◌-◌, ◌/◌, ◌%◌, ◌^◌, ◌<◌, ◌≤◌, cond, eqb, List, length, get_or, set, sym, refl, ap, ◌∙◌, subst, inl, inr, mod-lt, mod-eq_of_lt, arith, length-set}
 use native.Mathlib.Nat.{mod-mod}
 use Rattle.std.proofs.lemmas.Bool.Decides.{eqb_tells}
 use Rattle.std.proofs.lemmas.Bool.{cases_eq}
 use Rattle.std.proofs.lemmas.List.{get_or_default}
-use Rattle.handles.specs.Slots.{rank, rank_of, meta_of, occupied, Local, allowed, empty, weigh_from, weight}
+use Rattle.handles.specs.Slots.{rank, rank_of, meta_of, occupied, Local, Movable, empty, weigh_from, weight}
 use Rattle.handles.specs.Carry.{Carries}
 use Rattle.handles.specs.Shift.{run_from, run, pushed, further}
 use Rattle.handles.specs.declared.slot.Slot.{Slot}
@@ -29,10 +29,11 @@ module _ {X : Type 0} where
   pub ring_low : (n : ℕ) (xs : List (Slot X)) (p : ℕ) → Ring n xs → rank n xs p < n
   ring_low n xs p r = rank_below n xs r.len r.room r.local p
 
-  pub ring_made : (xs : List (Slot X)) → allowed (length xs) ≡ true → occupied xs < length xs → Local (length xs) xs → Ring (length xs) xs
-  ring_made xs a room l =
-      let w = power (length xs) a (omega arith) in
-      record { len = refl; low = w.2; high = w.3; room = room; local = l }
+  pub ring_made : (xs : List (Slot X)) → Movable xs → Ring (length xs) xs
+  ring_made xs m =
+      let pos = m.vacancy in
+      let w = power (length xs) m.size (omega arith) in
+      record { len = refl; low = w.2; high = w.3; room = m.vacancy; local = m.level }
 
   -- the first empty slot from p on is j steps away
   abbrev pub Ends : ℕ → List (Slot X) → ℕ → ℕ → Type 0

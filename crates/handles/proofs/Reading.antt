@@ -1,5 +1,5 @@
 -- What the code of the reader and of a search answers, from the search's own answer.
-use Rattle.std.proofs.Common.{◌≡◌, ℕ, zero, suc, ◌+◌, ◌-◌, ◌%◌, ◌<◌, Bool, true, cond, List, [], ◌∷◌, length, get_or, Some, None, Option, sym, refl, ap, ◌∙◌, subst, inl, inr, arith}
+use Rattle.std.proofs.Common.{◌≡◌, ℕ, zero, suc, ◌+◌, ◌-◌, ◌%◌, ◌<◌, Bool, true, cond, List, [], ◌∷◌, length, get_or, Some, None, sym, refl, ap, ◌∙◌, subst, inl, inr, arith}
 use Rattle.std.proofs.lemmas.Bool.Decides.{eqb_tells}
 use Rattle.handles.specs.Slots.{rank_of, meta_of, occupied, empty, Sound, fingerprint}
 use Rattle.handles.specs.Seek.{seek_from, candidates_from, candidates, first_by, to_come}
@@ -39,21 +39,15 @@ module _ {X : Type 0} where
         subst (Follows n (y ∷ ys) home print y n (candidates_from n (y ∷ ys) home print (n - d) d)) (sym is)
         (cands_follow n (y ∷ ys) home print refl (omega arith) y n (n - d) d refl)
 
-  module _ (ok : X → Bool) (xs : List (Slot X)) (hash home print : ℕ) (at_home : home ≡ hash % length xs) (printed : print ≡ fingerprint hash) (pos : 0 < length xs) where
-    first_seek : (s : Slot X) (o : Option ℕ) → o ≡ seek_from ok (length xs) xs home print (length xs - 0) 0 → first_by ok (candidates xs hash) ≡ handle_at (length xs) xs home print s o
-    first_seek s o is =
-        let n = length xs in
-        let z : n - 0 ≡ n = omega arith in
-        sym (ap (λ (k : ℕ). first_by ok (candidates_from n xs k print n 0)) at_home
-        ∙ ap (λ (k : ℕ). first_by ok (candidates_from n xs (hash % n) k n 0)) printed)
-        ∙ first_is n xs home print refl pos s ok n 0
-        ∙ ap (handle_at n xs home print s) (sym (is ∙ ap (λ (k : ℕ). seek_from ok n xs home print k 0) z))
-
-    pub find_some : (e : ℕ) (x : X) → Some e ≡ seek_from ok (length xs) xs home print (length xs - 0) 0 → ((s : Slot X) → x ≡ (get_or xs ((home + e) % length xs) s).handle) → Some x ≡ first_by ok (candidates xs hash)
-    find_some e x is read =
+    -- the first to come that is sought, and that none is
+    pub find_some : (ok : X → Bool) (xs : List (Slot X)) (e : ℕ) (x : X) → e < length xs → Some e ≡ seek_from ok (length xs) xs home print (length xs - d) d → ((s : Slot X) → x ≡ (get_or xs ((home + e) % length xs) s).handle) → Some x ≡ first_by ok (to_come xs home print d)
+    find_some ok xs e x lt is read =
         let s : Slot X = record { meta = 0; handle = x } in
-        ap (λ z. Some z) (read s) ∙ sym (first_seek s (Some e) is)
+        let f = first_is (length xs) xs home print refl (omega arith) s ok (length xs - d) d in
+        ap (λ z. Some z) (read s) ∙ sym (f ∙ ap (handle_at (length xs) xs home print s) (sym is))
 
-  pub find_none : (ok : X → Bool) (xs : List (Slot X)) (hash home print : ℕ) → home ≡ hash % length xs → print ≡ fingerprint hash → 0 < length xs → None ≡ seek_from ok (length xs) xs home print (length xs - 0) 0 → None ≡ first_by ok (candidates xs hash)
-  find_none ok [] hash home print h p pos is = refl
-  find_none ok (y ∷ ys) hash home print h p pos is = sym (first_seek ok (y ∷ ys) hash home print h p pos y None is)
+    pub find_none : (ok : X → Bool) (xs : List (Slot X)) → None ≡ seek_from ok (length xs) xs home print (length xs - d) d → None ≡ first_by ok (to_come xs home print d)
+    find_none ok [] is = let e : 0 - d ≡ 0 = omega arith in sym (ap (λ (k : ℕ). first_by ok (candidates_from 0 [] home print k d)) e)
+    find_none ok (y ∷ ys) is =
+        let n = length (y ∷ ys) in
+        sym (first_is n (y ∷ ys) home print refl (omega arith) y ok (n - d) d ∙ ap (handle_at n (y ∷ ys) home print y) (sym is))

@@ -1,6 +1,6 @@
 -- A rebuild places each old entry anew, one by one, and stays sound all along.
 use Rattle.std.proofs.Common.{◌≡◌, ℕ, ◌+◌, ◌<◌, ◌≤◌, cond, eqb, List, length, get_or, drop, sym, ap, ◌∙◌, subst, inl, inr, arith}
-use Rattle.std.proofs.lemmas.List.{drop_more, drop_all}
+use Rattle.std.proofs.lemmas.List.{drop_more}
 use Rattle.std.proofs.lemmas.Bool.Decides.{eqb_tells}
 use Rattle.handles.specs.Slots.{occupied, room, Sound, empty}
 use Rattle.handles.specs.Shift.{inserted}
@@ -69,14 +69,4 @@ module _ {X : Type 0} (rule : X → ℕ) where
         sym (rebuilt_more old ys i s lt is ∙ ap (λ z. rebuilt rule z (drop (i + 1) old)) (replaced_full ys s ne ∙ sym put)) ∙ m.0,
         subst (λ (n : ℕ). Sound zs n) (sym c) good,
         omega arith,
-      )
-
-  pub midway_end : (old start ys : List (Slot X)) (i : ℕ) → Midway old start ys i → length old ≤ i → (ys ≡ rebuilt rule start old) × Sound ys (occupied old)
-  midway_end old start ys i m past =
-      let d = drop_all i old past in
-      let z : occupied (drop i old) ≡ 0 = ap occupied d in
-      let k = m.2 in
-      let e : occupied ys ≡ occupied old = omega arith in (
-        ap (rebuilt rule ys) (sym d) ∙ m.0,
-        subst (λ (n : ℕ). Sound ys n) e m.1,
       )

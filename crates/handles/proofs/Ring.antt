@@ -53,7 +53,7 @@ abbrev pub Power : ℕ → Type 0
 Power n = (k : ℕ) × (n ≡ 2 ^ k) × (16 ≤ n) × (n ≤ 4096)
 
 or_rest : (a rest : Bool) → a ≡ false → (a || rest) ≡ true → rest ≡ true
-or_rest true rest e h = absurd (let z : ◌≡◌ {A = ℕ} 0 1 = cc in omega arith)
+or_rest true rest e h = absurd (cc)
 or_rest false rest e h = h
 
 power_or : (n v k : ℕ) (rest : Bool) → v ≡ 2 ^ k → 16 ≤ v → v ≤ 4096 → (rest ≡ true → Power n) → (eqb n v || rest) ≡ true → Power n
@@ -72,7 +72,7 @@ power n h pos =
           (let last : eqb n 4096 ≡ true → Power n =
           λ q. elim (eqb_tells n 4096) [
             | inl u ↦ (12, u.1, omega (arith, u.1), omega (arith, u.1))
-            | inr u ↦ absurd (let z : true ≡ false = sym q ∙ u.0 in let y : ◌≡◌ {A = ℕ} 0 1 = cc in omega arith)
+            | inr u ↦ absurd (let z : true ≡ false = sym q ∙ u.0 in cc)
           ] in
           power_or n 16 4 _ refl (lit≤ tt) (lit≤ tt)
           (power_or n 32 5 _ refl (lit≤ tt) (lit≤ tt)

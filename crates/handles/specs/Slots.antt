@@ -1,5 +1,5 @@
 -- Slots: what a meta says, which slot counts are allowed, what a table holds, and when it is sound.
-use Rattle.std.specs.Prelude.{◌≡◌, ℕ, zero, suc, ◌+◌, ◌-◌, ◌*◌, ◌/◌, ◌%◌, ◌^◌, ◌≤◌, Bool, cond, ◌||◌, List, [], ◌∷◌, length, ◌==◌}
+use Rattle.std.specs.Prelude.{◌≡◌, ℕ, zero, suc, ◌+◌, ◌-◌, ◌*◌, ◌/◌, ◌%◌, ◌^◌, ◌<◌, ◌≤◌, Bool, true, cond, ◌||◌, List, [], ◌∷◌, length, ◌==◌}
 use Rattle.handles.specs.declared.slot.Slot.{Slot}
 
 -- the meta of a slot that holds nothing
@@ -63,3 +63,9 @@ Local n xs = (p : ℕ) → rank n xs (p + 1) ≤ rank n xs p + 1
 -- a table of these slots with this many entries is sound
 abbrev pub Sound : {X : Type 0} → List (Slot X) → ℕ → Type 0
 Sound xs len = Local (length xs) xs × (occupied xs ≡ len) × (len ≤ room (length xs))
+
+-- slots among which a run may move: of an allowed count, one of them empty, and no rank more than one above the one before
+pub record Movable {X : Type 0} (xs : List (Slot X)) : Type 0 where
+  pub size : allowed (length xs) ≡ true
+  pub vacancy : occupied xs < length xs
+  pub level : Local (length xs) xs

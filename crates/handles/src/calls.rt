@@ -5,11 +5,10 @@ ghost use Rattle.handles.specs.Calls.{Inserts, Removes, rebuilt};
 
 use crate::entries::{empty_all, place};
 use crate::handle::{Handle, Rehash};
-use crate::probe::seek;
+use crate::probe::Probe;
 use crate::refusal::TableRefusal;
 use crate::search::Alike;
 use crate::shift::pull_back;
-use crate::size::{home_of, print_of};
 use crate::slot::{EMPTY, Slot};
 
 /// Inserts an entry unless the slots hold as many as they take.
@@ -47,16 +46,14 @@ pub(crate) fn remove_slots<X: Handle>(
     if *len == 0 {
         return false;
     }
-    let home = home_of(slots.len(), hash);
-    match seek(slots, home, print_of(hash), 0, &Alike { handle }) {
-        Some(displacement) => {
-            let mask = slots.len() - 1;
-            pull_back(slots, (home + displacement as usize) & mask);
-            *len -= 1;
-            true
-        }
-        None => false,
-    }
+    let probe = Probe::new(slots, hash);
+    let Some(displacement) = probe.seek(0, &Alike { handle }) else {
+        return false;
+    };
+    let slot = probe.slot_at(displacement);
+    pull_back(slots, slot);
+    *len -= 1;
+    true
 }
 
 /// Empties fresh slots and places every entry of the old ones anew, in slot order, under a rule's hashes.

@@ -1,10 +1,9 @@
 ghost use Rattle.std.specs.Prelude.{◌≡◌, ℕ, ◌<◌, true, length};
-ghost use Rattle.handles.specs.Slots.{allowed, Local, occupied};
+ghost use Rattle.handles.specs.Slots.{Movable};
 ghost use Rattle.handles.specs.Shift.{inserted, cleared};
 
-use crate::probe::walk;
+use crate::probe::Probe;
 use crate::shift::push_forward;
-use crate::size::{home_of, print_of};
 use crate::slot::{EMPTY, Slot};
 
 /// Leaves every slot empty.
@@ -18,13 +17,11 @@ pub(crate) fn empty_all<X: Copy>(slots: &mut [Slot<X>])
 
 /// Puts an entry where its walk stops, and moves the run there forward.
 pub(crate) fn place<X: Copy>(slots: &mut [Slot<X>], hash: u64, handle: X)
-    requires size { allowed (length slots.old) ≡ true }
-    requires vacancy { occupied slots.old < length slots.old }
-    requires level { Local (length slots.old) slots.old }
+    requires { Movable slots.old }
     ensures { slots.new ≡ inserted slots.old hash handle }
 {
-    let home = home_of(slots.len(), hash);
-    let (slot, displacement) = walk(slots, home);
-    let meta = displacement * 256 + print_of(hash);
+    let probe = Probe::new(slots, hash);
+    let (slot, displacement) = probe.walk();
+    let meta = displacement * 256 + probe.print;
     push_forward(slots, slot, Slot { meta, handle });
 }

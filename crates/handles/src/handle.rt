@@ -18,7 +18,8 @@ pub trait Rehash<X: Handle> {
         ensures { result ≡ rehashed self.now (X.Handle.meaning handle.now) };
 }
 
-/// What a search among candidates looks for.
+/// What a search among candidates looks for: a trait and no closure, so that its answer is an equation over a function
+/// of it, and asks nothing of the caller.
 pub trait Sought<X: Copy> {
     ghost fits: { Self → X → Bool };
 

@@ -11,7 +11,7 @@ impl Handle for Place {
     ghost meaning = { place_meaning };
 
     fn same(&self, other: &Place) -> bool {
-        self.0 == other.0
+        self == other
     }
 }
 
@@ -26,7 +26,7 @@ impl Handle for SheetLine {
     ghost meaning = { line_meaning };
 
     fn same(&self, other: &SheetLine) -> bool {
-        self.sheet == other.sheet && self.line == other.line
+        self == other
     }
 }
 
@@ -40,12 +40,7 @@ impl Rehash<Place> for ListedHashes<'_> {
     ghost rehashed = { λ s m. listed s.hashes.now m };
 
     fn hash_of(&self, handle: &Place) -> u64 {
-        let place = handle.0 as usize;
-        if place < self.hashes.len() {
-            self.hashes[place]
-        } else {
-            0
-        }
+        self.hashes.get(handle.0 as usize).copied().unwrap_or(0)
     }
 }
 

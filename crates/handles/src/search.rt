@@ -4,8 +4,7 @@ ghost use Rattle.handles.specs.Slots.{Sound};
 ghost use Rattle.handles.specs.Seek.{candidates, first_by};
 
 use crate::handle::{Handle, Sought};
-use crate::probe::{handle_at, seek};
-use crate::size::{home_of, print_of};
+use crate::probe::Probe;
 use crate::slot::Slot;
 
 /// The search that takes every candidate.
@@ -22,8 +21,8 @@ impl<X: Copy> Sought<X> for Anything {
 
 /// The search for handles that mean the same as one.
 #[derive(Drop)]
-pub(crate) struct Alike<X> {
-    pub(crate) handle: X,
+pub struct Alike<X> {
+    pub handle: X,
 }
 
 impl<X: Handle> Sought<X> for Alike<X> {
@@ -44,12 +43,7 @@ pub(crate) fn find_slots<X: Copy, S: Sought<X>>(
     requires { Sound slots.now len }
     ensures { result ≡ first_by (S.Sought.fits sought.now) (candidates slots.now hash) }
 {
-    if len == 0 {
-        return None;
-    }
-    let home = home_of(slots.len(), hash);
-    match seek(slots, home, print_of(hash), 0, sought) {
-        Some(displacement) => { Some(handle_at(slots, home, displacement)) }
-        None => None,
-    }
+    let probe = Probe::over(slots, len, hash);
+    let displacement = probe.seek(0, sought)?;
+    Some(probe.handle_at(displacement))
 }

@@ -1,5 +1,5 @@
 ghost use Rattle.std.specs.Prelude.{◌≡◌, ℕ, ◌+◌, ◌%◌, ◌<◌, ◌≤◌, true, length};
-ghost use Rattle.handles.specs.Slots.{rank, allowed, Local, occupied};
+ghost use Rattle.handles.specs.Slots.{rank, Movable};
 ghost use Rattle.handles.specs.Shift.{pushed, run, erased};
 ghost use Rattle.handles.specs.Carry.{Carries};
 ghost use Rattle.handles.specs.declared.slot.Slot.{Slot as SlotOf};
@@ -9,16 +9,15 @@ use crate::slot::{EMPTY, Slot, UNIT};
 
 /// Puts an entry into a slot and moves the run that begins there forward, each entry by one slot.
 pub(crate) fn push_forward<X: Copy>(slots: &mut [Slot<X>], at: usize, entry: Slot<X>)
-    requires size { allowed (length slots.old) ≡ true }
+    requires movable { Movable slots.old }
     requires within { at < length slots.old }
-    requires vacancy { occupied slots.old < length slots.old }
-    requires level { Local (length slots.old) slots.old }
     requires carries { Carries (length slots.old) slots.old at entry }
     ensures { slots.new ≡ pushed (length slots.old) slots.old at (run (length slots.old) slots.old at) entry }
 {
     let mask = slots.len() - 1;
     let mut slot = at;
     let mut carried = entry;
+    // Round the ring, up to what stands in the slots, so by no range.
     'run: loop {
         let displaced = slots[slot];
         slots[slot] = carried;
@@ -35,15 +34,14 @@ pub(crate) fn push_forward<X: Copy>(slots: &mut [Slot<X>], at: usize, entry: Slo
 
 /// Empties a slot and moves the entries after it back by one slot each, up to one at its home.
 pub(crate) fn pull_back<X: Copy>(slots: &mut [Slot<X>], at: usize)
-    requires size { allowed (length slots.old) ≡ true }
+    requires movable { Movable slots.old }
     requires within { at < length slots.old }
-    requires vacancy { occupied slots.old < length slots.old }
-    requires level { Local (length slots.old) slots.old }
     requires taken { 0 < rank (length slots.old) slots.old at }
     ensures { (d : SlotOf X) → slots.new ≡ erased slots.old at d }
 {
     let mask = slots.len() - 1;
     let mut hole = at;
+    // Round the ring, up to what stands in the slots, so by no range.
     'run: loop {
         let next = (hole + 1) & mask;
         let follower = slots[next];

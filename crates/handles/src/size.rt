@@ -9,10 +9,10 @@ use crate::slot::Slot;
 pub(crate) fn is_allowed(count: usize) -> bool
     ensures { result ≡ allowed count }
 {
-    match count {
-        0 | 16 | 32 | 64 | 128 | 256 | 512 | 1024 | 2048 | 4096 => true,
-        _ => false,
-    }
+    matches!(
+        count,
+        0 | 16 | 32 | 64 | 128 | 256 | 512 | 1024 | 2048 | 4096
+    )
 }
 
 /// How many entries this many slots take.

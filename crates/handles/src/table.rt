@@ -13,92 +13,85 @@ use crate::search::find_slots;
 use crate::size::{capacity_of, reserve_answer};
 use crate::slot::Slot;
 
-/// The slots of a table, its number of entries, and how many it takes.
-#[derive(Drop)]
-pub(crate) struct Inner<'a, X> {
-    slots: &'a mut [Slot<X>],
-    len: usize,
-    capacity: usize,
-}
-
 /// A multimap from hashes to handles over slots that the caller brings.
 #[derive(Drop)]
 pub struct Table<'a, X> {
-    inner: Inner<'a, X>,
-    ghost sound: { Sound inner.slots.now inner.len },
-    ghost sized: { inner.capacity ≡ room (length inner.slots.now) },
+    slots: &'a mut [Slot<X>],
+    len: usize,
+    capacity: usize,
+    ghost sound: { Sound slots.now len },
+    ghost sized: { capacity ≡ room (length slots.now) },
 }
 
 impl<'a, X: Handle> Table<'a, X> {
     /// Opens a table over slots, which it leaves empty.
     pub fn open(slots: &'a mut [Slot<X>]) -> Table<'a, X>
-        ensures { result.inner.slots.now ≡ cleared slots.old }
+        ensures { result.slots.now ≡ cleared slots.old }
     {
         empty_all(slots);
         let capacity = capacity_of(slots.len());
         Table {
-            inner: Inner {
-                slots,
-                len: 0,
-                capacity,
-            },
+            slots,
+            len: 0,
+            capacity,
         }
     }
 
     /// The number of entries.
     pub fn len(&self) -> usize
-        ensures { result ≡ occupied self.now.inner.slots.now }
+        ensures { result ≡ occupied self.now.slots.now }
     {
-        self.inner.len
+        self.len
     }
 
     /// How many entries the slots take.
     pub fn capacity(&self) -> usize
-        ensures { result ≡ room (length self.now.inner.slots.now) }
+        ensures { result ≡ room (length self.now.slots.now) }
     {
-        self.inner.capacity
+        self.capacity
     }
 
     /// The slots as they are.
     pub fn slots(&self) -> &[Slot<X>]
-        ensures { result.now ≡ self.now.inner.slots.now }
+        ensures { result.now ≡ self.now.slots.now }
     {
-        &*self.inner.slots
+        &*self.slots
     }
 
     /// A reader of the candidates of a hash.
     pub fn get(&self, hash: u64) -> Reader<'_, X>
-        ensures { to_come result.slots.now result.home result.print result.displacement ≡ candidates self.now.inner.slots.now hash }
+        ensures { to_come result.probe.slots.now result.probe.home result.probe.print result.displacement ≡ candidates self.now.slots.now hash }
     {
-        read_slots(&*self.inner.slots, self.inner.len, hash)
+        read_slots(&*self.slots, self.len, hash)
     }
 
     /// The first candidate of a hash that is sought.
     pub fn find<S: Sought<X>>(&self, hash: u64, sought: &S) -> Option<X>
-        ensures { result ≡ first_by (S.Sought.fits sought.now) (candidates self.now.inner.slots.now hash) }
+        ensures { result ≡ first_by (S.Sought.fits sought.now) (candidates self.now.slots.now hash) }
     {
-        find_slots(&*self.inner.slots, self.inner.len, hash, sought)
+        find_slots(&*self.slots, self.len, hash, sought)
     }
 
     /// Inserts a handle under a hash, or refuses where the table is full.
     pub fn insert(&mut self, hash: u64, handle: X) -> Result<(), TableRefusal>
-        ensures { Inserts self.old.inner.slots.now hash handle result self.new.inner.slots.now }
+        ensures { Inserts self.old.slots.now hash handle result self.new.slots.now }
     {
-        insert_in(&mut self.inner, hash, handle)
+        insert_slots(self.slots, &mut self.len, self.capacity, hash, handle)
     }
 
     /// Removes the first candidate of a hash with a handle, and says whether there was one.
     pub fn remove(&mut self, hash: u64, handle: X) -> bool
-        ensures { Removes X.Handle.meaning self.old.inner.slots.now hash handle result self.new.inner.slots.now }
+        ensures { Removes X.Handle.meaning self.old.slots.now hash handle result self.new.slots.now }
     {
-        remove_in(&mut self.inner, hash, handle)
+        remove_slots(self.slots, &mut self.len, hash, handle)
     }
 
     /// Removes every entry.
     pub fn clear(&mut self)
-        ensures { self.new.inner.slots.now ≡ cleared self.old.inner.slots.now }
+        ensures { self.new.slots.now ≡ cleared self.old.slots.now }
     {
-        clear_in(&mut self.inner)
+        empty_all(self.slots);
+        self.len = 0;
     }
 
     /// Makes room for further entries: where there is too little, rebuilds the table in the brought slots
@@ -109,80 +102,26 @@ impl<'a, X: Handle> Table<'a, X> {
         rule: &R,
         brought: &mut &'a mut [Slot<X>],
     ) -> Result<Reserved, TableRefusal>
-        ensures { Reserves (λ x. R.Rehash.rehashed rule.now (X.Handle.meaning x)) self.old.inner.slots.now wanted brought.old.now result self.new.inner.slots.now brought.new.now }
+        ensures { Reserves (λ x. R.Rehash.rehashed rule.now (X.Handle.meaning x)) self.old.slots.now wanted brought.old.now result self.new.slots.now brought.new.now }
     {
-        reserve_in(&mut self.inner, wanted, rule, brought)
+        let count = brought.len();
+        let reserved = reserve_answer(self.capacity, self.len, wanted, count)?;
+        if reserved == Reserved::Rebuilt {
+            rebuild_in(self, rule, brought);
+            std::mem::swap(&mut self.slots, brought);
+            self.capacity = capacity_of(count);
+        }
+        Ok(reserved)
     }
 }
 
-fn insert_in<X: Handle>(inner: &mut Inner<'_, X>, hash: u64, handle: X) -> Result<(), TableRefusal>
-    requires sound { Sound inner.old.slots.now inner.old.len }
-    requires sized { inner.old.capacity ≡ room (length inner.old.slots.now) }
-    ensures inserts { Inserts inner.old.slots.now hash handle result inner.new.slots.now }
-    ensures sound { Sound inner.new.slots.now inner.new.len }
-    ensures sized { inner.new.capacity ≡ room (length inner.new.slots.now) }
-{
-    let mut len = inner.len;
-    let capacity = inner.capacity;
-    let answer = insert_slots(inner.slots, &mut len, capacity, hash, handle);
-    inner.len = len;
-    answer
-}
-
-fn remove_in<X: Handle>(inner: &mut Inner<'_, X>, hash: u64, handle: X) -> bool
-    requires sound { Sound inner.old.slots.now inner.old.len }
-    requires sized { inner.old.capacity ≡ room (length inner.old.slots.now) }
-    ensures removes { Removes X.Handle.meaning inner.old.slots.now hash handle result inner.new.slots.now }
-    ensures sound { Sound inner.new.slots.now inner.new.len }
-    ensures sized { inner.new.capacity ≡ room (length inner.new.slots.now) }
-{
-    let mut len = inner.len;
-    let answer = remove_slots(inner.slots, &mut len, hash, handle);
-    inner.len = len;
-    answer
-}
-
-fn clear_in<X: Handle>(inner: &mut Inner<'_, X>)
-    requires { inner.old.capacity ≡ room (length inner.old.slots.now) }
-    ensures slots { inner.new.slots.now ≡ cleared inner.old.slots.now }
-    ensures sound { Sound inner.new.slots.now inner.new.len }
-    ensures sized { inner.new.capacity ≡ room (length inner.new.slots.now) }
-{
-    empty_all(inner.slots);
-    inner.len = 0;
-}
-
-fn rebuild_in<X: Handle, R: Rehash<X>>(inner: &Inner<'_, X>, rule: &R, fresh: &mut &mut [Slot<X>])
+/// Places every entry of a table anew in fresh slots.
+fn rebuild_in<X: Handle, R: Rehash<X>>(table: &Table<'_, X>, rule: &R, fresh: &mut &mut [Slot<X>])
     requires size { allowed (length fresh.old.now) ≡ true }
-    requires room { occupied inner.now.slots.now ≤ room (length fresh.old.now) }
-    ensures slots { fresh.new.now ≡ rebuilt (λ x. R.Rehash.rehashed rule.now (X.Handle.meaning x)) (cleared fresh.old.now) inner.now.slots.now }
-    ensures sound { Sound fresh.new.now (occupied inner.now.slots.now) }
+    requires room { occupied table.now.slots.now ≤ room (length fresh.old.now) }
+    ensures slots { fresh.new.now ≡ rebuilt (λ x. R.Rehash.rehashed rule.now (X.Handle.meaning x)) (cleared fresh.old.now) table.now.slots.now }
+    ensures sound { Sound fresh.new.now (occupied table.now.slots.now) }
     ensures count { length fresh.new.now ≡ length fresh.old.now }
 {
-    rebuild(&*inner.slots, rule, fresh)
-}
-
-fn reserve_in<'a, X: Handle, R: Rehash<X>>(
-    inner: &mut Inner<'a, X>,
-    wanted: usize,
-    rule: &R,
-    brought: &mut &'a mut [Slot<X>],
-) -> Result<Reserved, TableRefusal>
-    requires sound { Sound inner.old.slots.now inner.old.len }
-    requires sized { inner.old.capacity ≡ room (length inner.old.slots.now) }
-    ensures reserves { Reserves (λ x. R.Rehash.rehashed rule.now (X.Handle.meaning x)) inner.old.slots.now wanted brought.old.now result inner.new.slots.now brought.new.now }
-    ensures sound { Sound inner.new.slots.now inner.new.len }
-    ensures sized { inner.new.capacity ≡ room (length inner.new.slots.now) }
-{
-    let count = brought.len();
-    match reserve_answer(inner.capacity, inner.len, wanted, count) {
-        Ok(Reserved::Rebuilt) => {
-            rebuild_in(inner, rule, brought);
-            std::mem::swap(&mut inner.slots, brought);
-            inner.capacity = capacity_of(count);
-            Ok(Reserved::Rebuilt)
-        }
-        Ok(Reserved::Room) => Ok(Reserved::Room),
-        Err(refusal) => Err(refusal),
-    }
+    rebuild(&*table.slots, rule, fresh)
 }

@@ -1,7 +1,10 @@
 //! The handle table for a caller in C or Rust: whole lists of calls on numbers, answered and recorded call by call.
 #![tactic(auto)]
 
-use handles::{ListedHashes, Place, Reserved, Slot, Table};
+ghost use Rattle.std.specs.Prelude.{◌≤◌, length};
+
+use handles::{ListedHashes, Place, Reserved, Slot, Table, TableRefusal};
+use handles_calls::{Answer, Call, make, read_sum};
 
 /// The most slots of a table.
 const MOST: usize = 4096;
@@ -15,51 +18,50 @@ pub struct Op {
     pub place: u16,
 }
 
-/// The candidates of a hash as one number that depends on each and on their order.
-fn read_sum(table: &Table<'_, Place>, hash: u64) -> u64 {
-    let mut sum = 0u64;
-    for place in table.get(hash) {
-        sum = sum.wrapping_mul(65599).wrapping_add(place.0 as u64 + 1);
-    }
-    sum
-}
-
-/// Makes one call that brings no slots; a refusal answers 100 and its number.
-fn apply(table: &mut Table<'_, Place>, op: Op) -> u64 {
-    match op.kind {
-        0 => match table.insert(op.hash, Place(op.place)) {
-            Ok(()) => 1,
-            Err(refusal) => 100 + refusal.number() as u64,
-        },
-        1 => {
-            if table.remove(op.hash, Place(op.place)) {
-                1
-            } else {
-                0
-            }
+impl Op {
+    /// The call that brings no slots.
+    fn call(self) -> Call {
+        let Op { hash, place, .. } = self;
+        match self.kind {
+            0 => Call::Insert { hash, place },
+            1 => Call::Remove { hash, place },
+            2 => Call::Clear,
+            _ => Call::Read { hash },
         }
-        2 => {
-            table.clear();
-            0
-        }
-        _ => read_sum(table, op.hash),
     }
 }
 
-/// Writes every slot's meta and place from `at` on, as far as they fit.
-fn record(table: &Table<'_, Place>, metas: &mut [u32], places: &mut [u16], at: usize) -> usize {
-    let mut next = at;
-    for slot in table.slots() {
-        if next < metas.len() && next < places.len() {
-            metas[next] = slot.meta();
-            places[next] = slot.handle().0;
-            next += 1;
-        }
-    }
-    next
+/// The number that C has for a refusal: 100 and the refusal's own.
+fn refused(refusal: TableRefusal) -> u64 {
+    100 + refusal.number() as u64
 }
 
-/// What a reservation answers as a number: 0 for room, 1 for rebuilt, and a refusal as above.
+/// The number that C has for an answer.
+fn number_of(answer: Answer) -> u64 {
+    match answer {
+        Answer::Inserted(Ok(())) => 1,
+        Answer::Inserted(Err(refusal)) => refused(refusal),
+        Answer::Removed(removed) => removed as u64,
+        Answer::Cleared => 0,
+        Answer::Read(sum) => sum,
+    }
+}
+
+/// Writes every slot's meta and place, as far as they fit, and says how many did.
+fn record(table: &Table<'_, Place>, metas: &mut [u32], places: &mut [u16]) -> usize
+    ensures metas { result ≤ length metas.old }
+    ensures places { result ≤ length places.old }
+{
+    let slots = table.slots();
+    let fits = slots.len().min(metas.len()).min(places.len());
+    for (slot, (meta, place)) in slots.iter().zip(metas.iter_mut().zip(places.iter_mut())) {
+        *meta = slot.meta();
+        *place = slot.handle().0;
+    }
+    fits
+}
+
+/// Reserves, and answers 0 for room, 1 for rebuilt, or a refusal's number.
 fn reserve<'a>(
     table: &mut Table<'a, Place>,
     wanted: usize,
@@ -70,7 +72,7 @@ fn reserve<'a>(
     match table.reserve(wanted, &rule, brought) {
         Ok(Reserved::Room) => 0,
         Ok(Reserved::Rebuilt) => 1,
-        Err(refusal) => 100 + refusal.number() as u64,
+        Err(refusal) => refused(refusal),
     }
 }
 
@@ -94,17 +96,16 @@ pub extern "C" fn handles_run(
     let mut table = Table::open(&mut first[0..count]);
     let mut brought = &mut second[0..more];
     let mut at = 0;
-    for i in 0..ops.len() {
-        let op = ops[i];
-        let answer = if op.kind == 4 {
+    for (i, op) in ops.iter().enumerate() {
+        let number = if op.kind == 4 {
             reserve(&mut table, op.place as usize, hashes, &mut brought)
         } else {
-            apply(&mut table, op)
+            number_of(make(&mut table, op.call()))
         };
-        if i < answers.len() {
-            answers[i] = answer;
+        if let Some(answer) = answers.get_mut(i) {
+            *answer = number;
         }
-        at = record(&table, metas, places, at);
+        at += record(&table, &mut metas[at..], &mut places[at..]);
     }
     at
 }

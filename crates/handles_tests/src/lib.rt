@@ -5,7 +5,6 @@
 mod tests {
     use handle_laws::is_in;
     use handles::*;
-    use std::test::Fail;
 
     // The slots of a table that is brought along, all empty.
     fn slots() -> [Slot<Place>; 16] {
@@ -29,10 +28,9 @@ mod tests {
         assert!(rt; table.insert(21, Place(2)).is_ok());
         assert!(rt; table.insert(5, Place(1)).is_ok());
         assert_eq!(rt; table.len(), 3);
-        let mut seen = 0u32;
-        for place in table.get(5) {
-            seen = seen.wrapping_mul(10).wrapping_add(place.0 as u32);
-        }
+        let seen = table.get(5).fold(0u32, |seen, place| {
+            seen.wrapping_mul(10).wrapping_add(place.0 as u32)
+        });
         assert_eq!(rt; seen, 121);
         assert!(rt; is_in(&table, 5, Place(2)));
         assert!(rt; table.remove(5, Place(1)));
@@ -42,23 +40,18 @@ mod tests {
     }
 
     #[test]
-    fn refuses_when_full(rt: HostRuntime) -> Result<(), Fail> {
+    fn refuses_when_full(rt: HostRuntime) {
         let mut slots = slots();
         let mut table = Table::open(&mut slots);
         for i in 0..12u16 {
             assert!(rt; table.insert(i as u64 * 7, Place(i)).is_ok());
         }
-        match table.insert(3, Place(3)) {
-            Ok(()) => Err(Fail::new("a full table took one more")),
-            Err(refusal) => {
-                assert_eq!(rt; refusal.number(), 9);
-                Ok(())
-            },
-        }
+        let full = table.insert(3, Place(3));
+        assert_eq!(rt; full.map_err(|refusal| refusal.number()), Err(9));
     }
 
     #[test]
-    fn reserves_and_keeps_the_old_slots(rt: HostRuntime) -> Result<(), Fail> {
+    fn reserves_and_keeps_the_old_slots(rt: HostRuntime) {
         let mut slots = slots();
         let mut larger = [Slot::vacant(Place(9)); 32];
         let hashes = [11u64, 12, 13];
@@ -67,13 +60,10 @@ mod tests {
         assert!(rt; table.insert(11, Place(0)).is_ok());
         assert!(rt; table.insert(12, Place(1)).is_ok());
         let mut brought = &mut larger[0..32];
-        match table.reserve(11, &rule, &mut brought) {
-            Ok(Reserved::Rebuilt) => {}
-            _ => return Err(Fail::new("twelve do not hold thirteen")),
-        }
+        let reserved = table.reserve(11, &rule, &mut brought);
+        assert_eq!(rt; reserved, Ok(Reserved::Rebuilt));
         assert_eq!(rt; table.capacity(), 24);
         assert_eq!(rt; brought.len(), 16);
         assert!(rt; is_in(&table, 12, Place(1)));
-        Ok(())
     }
 }

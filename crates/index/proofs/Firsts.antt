@@ -6,7 +6,7 @@ use Rattle.handle_laws.specs.Runs.{how_many}
 use Rattle.index.specs.Ties.{occurs}
 
 pub not_both : (b : Bool) → b ≡ true → b ≡ false → ⊥
-not_both b t f = let z : ◌≡◌ {A = ℕ} 0 1 = (let q : true ≡ false = sym t ∙ f in cc) in omega arith
+not_both b t f = (let q : true ≡ false = sym t ∙ f in cc)
 
 pub counts_one : (b : Bool) → b ≡ true → ◌≡◌ {A = ℕ} (cond b 1 0) 1
 counts_one b t = ap (λ z. cond z 1 0) t
@@ -25,7 +25,7 @@ module _ {A : Type 0} (f g : A → Bool) (under : (x : A) → g x ≡ true → f
 module _ {A : Type 0} (f : A → Bool) where
   -- the first that passes does pass, and whatever it passes too counts it
   pub first_passes : (xs : List A) (y : A) → first_by f xs ≡ Some y → (f y ≡ true) × ((g : A → Bool) → g y ≡ true → 0 < how_many g xs)
-  first_passes [] y e = absurd (let z : ◌≡◌ {A = ℕ} 0 1 = cc in omega arith)
+  first_passes [] y e = absurd (cc)
   first_passes (x ∷ xs) y e =
       (elim (f x) as (λ b. f x ≡ b → cond b (Some x) (first_by f xs) ≡ Some y → (f y ≡ true) × ((g : A → Bool) → g y ≡ true → 0 < how_many g (x ∷ xs))) [
         | true ↦ λ t q.

@@ -20,7 +20,7 @@ own_spot hash =
     ∙ eq-eqb (fingerprint hash) (fingerprint hash) refl
 
 pub key_is : (word : List ℕ) (o : Option (List ℕ)) → is_key word o ≡ true → o ≡ Some word
-key_is word None e = absurd (let z : ◌≡◌ {A = ℕ} 0 1 = cc in omega arith)
+key_is word None e = absurd (cc)
 key_is word (Some other) e = ap (λ w. Some w) (sym ((alike_decides word other).0 e))
 
 cond_least : (b : Bool) (n : ℕ) → 0 < cond b n 0 → 0 < n

@@ -25,10 +25,9 @@ impl KeyIndex {
         ensures found { Found self.now (P.KeyPlaces.lying places.now) (K.Key.meaning key.now) hash result }
         ensures tied { (hashed : List ℕ → ℕ) (ps : List ℕ) → Ties hashed (P.KeyPlaces.lying places.now) ps self.now → hash ≡ hashed (K.Key.meaning key.now) → result ≡ first_by (bears (P.KeyPlaces.lying places.now) (K.Key.meaning key.now)) ps }
     {
-        match self.table.find(hash, &PlaceOf { key, places }) {
-            Some(place) => Some(place.0),
-            None => None,
-        }
+        self.table
+            .find(hash, &PlaceOf { key, places })
+            .map(|place| place.0)
     }
 
     /// Files a place under a hash; with 768 entries the index is full and refuses.

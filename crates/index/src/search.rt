@@ -15,9 +15,8 @@ impl<'k, 'p, K: Key, P: KeyPlaces<K>> Sought<Place> for PlaceOf<'k, 'p, K, P> {
     ghost fits = { λ s x. bears (P.KeyPlaces.lying s.places.now) (K.Key.meaning s.key.now) x.0 };
 
     fn matches(&self, handle: Place) -> bool {
-        match self.places.key_at(handle.0) {
-            Some(key) => self.key.same(&key),
-            None => false,
-        }
+        self.places
+            .key_at(handle.0)
+            .is_some_and(|key| self.key.same(&key))
     }
 }

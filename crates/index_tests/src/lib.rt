@@ -7,7 +7,6 @@ mod tests {
     use keys::kind::*;
     use keys::numbered::NumberedKey;
     use records::{Column, Record, find_key, lay_key};
-    use std::test::Fail;
 
     fn key(station: u16) -> NumberedKey {
         NumberedKey { survey: 7, station }
@@ -71,18 +70,13 @@ mod tests {
     }
 
     #[test]
-    fn refuses_when_full(rt: HostRuntime) -> Result<(), Fail> {
+    fn refuses_when_full(rt: HostRuntime) {
         let mut index = KeyIndex::new();
         for place in 0..768u16 {
             assert!(rt; index.file(place as u64 * 3, place).is_ok());
         }
-        match index.file(5, 5) {
-            Ok(()) => Err(Fail::new("a full index took one more")),
-            Err(refusal) => {
-                assert_eq!(rt; refusal.number(), 9);
-                Ok(())
-            },
-        }
+        let full = index.file(5, 5);
+        assert_eq!(rt; full.map_err(|refusal| refusal.number()), Err(9));
     }
 
     #[test]

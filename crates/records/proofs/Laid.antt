@@ -24,7 +24,7 @@ module _ {K V : Type 0} (mean : K → List ℕ) (i j : KeyIndex) (rs : List (Rec
               | inl t ↦ is ∙ ap (λ b. cond b (keyed column rs place key) rs) (sym t.0)
               | inr t ↦
                   absurd (let e : Ok tt ≡ Err (Full 768) = sym ok ∙ f.answer ∙ ap (λ b. cond b (Ok tt) (Err (Full 768))) t.0 in
-                  let z : ◌≡◌ {A = ℕ} 0 1 = cc in omega arith)
+                  cc)
             ];
       }
 

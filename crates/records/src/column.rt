@@ -25,13 +25,8 @@ pub struct RecordKeys<'a, K, V> {
 pub fn key_in<K: Copy, V: Copy>(records: &[Record<K, V>], column: Column, place: u16) -> Option<K>
     ensures { result ≡ key_at_lem column records.now place }
 {
-    if place as usize >= records.len() {
-        return None;
-    }
-    match column {
-        Column::Resident => Some(records[place as usize].key),
-        Column::Remembered => Some(records[place as usize].remembered),
-    }
+    let record = records.get(place as usize)?;
+    Some(record.in_column(column))
 }
 
 /// Lays a key in a record; nothing changes where there is no such record.
@@ -43,12 +38,9 @@ pub(crate) fn set_key<K: Copy, V: Copy>(
 )
     ensures { records.new ≡ keyed column records.old place key }
 {
-    if place as usize >= records.len() {
-        return;
-    }
-    match column {
-        Column::Resident => records[place as usize].key = key,
-        Column::Remembered => records[place as usize].remembered = key,
+    let place = place as usize;
+    if place < records.len() {
+        records[place] = records[place].rekeyed(column, key);
     }
 }
 

@@ -280,12 +280,29 @@ fn sample() {
             steps.push((op, answer, slots_sum(&table)));
         }
     }
-    println!("use crate::Step;\n\n/// Calls on a table of 16 slots, with the Rust's answers and the sums of its slots; a clear begins each list.");
+    println!("use crate::Step;\nuse handles::TableRefusal;\nuse handles_calls::{{Answer, Call}};\n");
+    println!("/// Calls on a table of 16 slots, with the Rust's answers and the sums of its slots; a clear begins each list.");
     println!("pub const STEPS: [Step; {}] = [", steps.len());
     for (op, answer, slots) in steps {
-        println!("    Step {{ kind: {}, hash: {}, place: {}, answer: {answer}, slots: {slots} }},", op.kind, op.hash, op.place);
+        let (call, answer) = as_values(op, answer, n * 3 / 4);
+        println!("    Step {{ call: {call}, answer: {answer}, slots: {slots} }},");
     }
     println!("];");
+}
+
+/// A call and its answer as the replay's source has them.
+fn as_values(op: Op, answer: u64, capacity: usize) -> (String, String) {
+    let Op { hash, kind, place } = op;
+    match (kind, answer) {
+        (0, 1) => (format!("Call::Insert {{ hash: {hash}, place: {place} }}"), "Answer::Inserted(Ok(()))".into()),
+        (0, _) => (
+            format!("Call::Insert {{ hash: {hash}, place: {place} }}"),
+            format!("Answer::Inserted(Err(TableRefusal::Full {{ capacity: {capacity} }}))"),
+        ),
+        (1, _) => (format!("Call::Remove {{ hash: {hash}, place: {place} }}"), format!("Answer::Removed({})", answer == 1)),
+        (2, _) => ("Call::Clear".into(), "Answer::Cleared".into()),
+        _ => (format!("Call::Read {{ hash: {hash} }}"), format!("Answer::Read({answer})")),
+    }
 }
 
 fn slots_sum(table: &Table<u16>) -> u64 {

@@ -8,7 +8,7 @@ use Rattle.handle_laws.proofs.is_in.Goals as goal
 pub returns : goal.returns
 returns g c =
     let mean = g.X.Handle.meaning in
-    let xs = c.args.table.now.inner.slots.now in
+    let xs = c.args.table.now.slots.now in
     let hash = c.args.hash in
     let x = c.args.handle in
     let found : c.is_some.result ≡ ltb 0 (times_read mean (candidates xs hash) (mean x)) =

@@ -1,10 +1,9 @@
 use Rattle.std.proofs.Common.{◌≡◌, ℕ, ◌+◌, ◌≤◌, true, List, length, sym, refl, ap, ◌∙◌, subst, arith}
 use Rattle.handles.specs.Slots.{Sound, occupied, room, allowed}
 use Rattle.handles.specs.Shift.{inserted}
-use Rattle.handles.specs.Calls.{rebuilt}
 use Rattle.handles.specs.declared.slot.Slot.{Slot}
 use Rattle.handles.proofs.Placing.{cleared_sound, cleared_occupied, roomy_ring}
-use Rattle.handles.proofs.Rebuilding.{Midway, midway_room, midway_place, midway_pass, midway_end}
+use Rattle.handles.proofs.Rebuilding.{Midway, midway_room, midway_place, midway_pass}
 use Rattle.handles.proofs.calls.rebuild.Goals as goal
 
 pub old-init : goal.old-init
@@ -47,12 +46,3 @@ old-preserved g c =
           (midway_pass rule c.args.old.now c.empty_all.new.slots c.old.fresh c.old.slot-index s
           c.old.invariant c.old-test.true c.slot-item.is w.if-slot.false)
     ]
-
-pub returns : goal.returns
-returns g c =
-    let m = midway_end (λ x. g.R.Rehash.rehashed c.args.rule.now (g.X.Handle.meaning x)) c.args.old.now c.empty_all.new.slots c.old.fresh
-    c.old.slot-index c.old.invariant c.old-test.false in
-    record {
-      slots = m.0 ∙ ap (λ (ys : List (Slot g.row.X.Denot)). rebuilt (λ x. g.R.Rehash.rehashed c.args.rule.now (g.X.Handle.meaning x)) ys c.args.old.now) c.empty_all.ensures;
-      sound = m.1;
-    }

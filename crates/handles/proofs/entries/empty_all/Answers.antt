@@ -1,6 +1,5 @@
-use Rattle.std.proofs.Common.{◌++◌, map, drop, set, sym, ap, ◌∙◌}
+use Rattle.std.proofs.Common.{set, sym, ap, ◌∙◌}
 use Rattle.std.proofs.lemmas.List.Edits.{map_over_more}
-use Rattle.std.proofs.lemmas.List.{take_all, drop_all, append-nil}
 use Rattle.handles.specs.Shift.{vacated}
 use Rattle.handles.specs.declared.slot.Slot.{Slot}
 use Rattle.handles.proofs.entries.empty_all.Goals as goal
@@ -10,12 +9,3 @@ loop-slot-preserved g c =
     ap (λ (s : Slot g.row.X.Denot). set c.loop-slot.slots c.loop-slot.slot-index (vacated s)) (sym c.slot-item.is)
     ∙ map_over_more vacated c.args.slots.now c.loop-slot.slots c.loop-slot.slot-index c.slot-item.result
     c.loop-slot-test.true c.loop-slot.invariant c.slot-item.is
-
-pub returns : goal.returns
-returns g c =
-    let t = take_all c.loop-slot.slot-index c.args.slots.now c.loop-slot-test.false in
-    let d = drop_all c.loop-slot.slot-index c.args.slots.now c.loop-slot-test.false in
-    c.loop-slot.invariant
-    ∙ ap (λ xs. map vacated xs ++ drop c.loop-slot.slot-index c.args.slots.now) t
-    ∙ ap (λ xs. map vacated c.args.slots.now ++ xs) d
-    ∙ append-nil (map vacated c.args.slots.now)

@@ -1,15 +1,7 @@
-use Rattle.std.proofs.Common.{◌+◌, length, refl, ◌∙◌}
+use Rattle.std.proofs.Common.{◌+◌, length, ◌∙◌}
 use Rattle.handles.proofs.Ring.{masked}
-use Rattle.handles.proofs.Pushing.{ring_made, ring_pos, push_turn, push_last, push_fits}
+use Rattle.handles.proofs.Pushing.{ring_pos, push_turn, push_last, push_fits}
 use Rattle.handles.proofs.shift.push_forward.Goals as goal
-
-pub run-init : goal.run-init
-run-init g c = (
-  ring_made c.args.slots.now c.requires.size c.requires.vacancy c.requires.level,
-  c.requires.carries,
-  c.requires.within,
-  refl,
-)
 
 pub overflow_add-carried : goal.overflow_add-carried
 overflow_add-carried g c =
@@ -23,7 +15,7 @@ run-smaller g c =
     let r = c.run.invariant.0 in
     (push_turn n c.run.slots c.run.slot _ c.run.carried c.index-slots-slot.result
     r c.run.invariant.1 c.run.invariant.2 c.index-slots-slot.is c.if-displaced.false
-    (masked n (c.run.slot + 1) c.requires.size (ring_pos n c.run.slots r))).4
+    (masked n (c.run.slot + 1) c.requires.movable.size (ring_pos n c.run.slots r))).4
 
 pub run-preserved : goal.run-preserved
 run-preserved g c =
@@ -31,7 +23,7 @@ run-preserved g c =
     let r = c.run.invariant.0 in
     let t = push_turn n c.run.slots c.run.slot _ c.run.carried c.index-slots-slot.result
     r c.run.invariant.1 c.run.invariant.2 c.index-slots-slot.is c.if-displaced.false
-    (masked n (c.run.slot + 1) c.requires.size (ring_pos n c.run.slots r)) in
+    (masked n (c.run.slot + 1) c.requires.movable.size (ring_pos n c.run.slots r)) in
     (t.0, t.1, t.2, t.3 ∙ c.run.invariant.3)
 
 pub returns : goal.returns

@@ -4,5 +4,5 @@ use Rattle.handles.specs.declared.slot.Slot.{Slot}
 use Rattle.handles.proofs.Placing.{cleared_sound}
 use Rattle.handles.proofs.table.Table.open.Goals as goal
 
-pub invariant_of-result : goal.invariant_of-result
-invariant_of-result g c = record { sound = subst (λ (xs : List (Slot g.row.X.Denot)). Sound xs 0) (sym c.empty_all.ensures) (cleared_sound c.args.slots.now); sized = c.capacity_of-capacity.ensures }
+pub invariant_of-result-clause-sound : goal.invariant_of-result-clause-sound
+invariant_of-result-clause-sound g c = subst (λ (xs : List (Slot g.row.X.Denot)). Sound xs 0) (sym c.empty_all.ensures) (cleared_sound c.args.slots.now)

@@ -1,9 +1,8 @@
-use Rattle.std.proofs.Common.{ap, ◌∙◌}
-use Rattle.handles.proofs.Meaning.{alike_is}
-use Rattle.index.specs.Filed.{is_key}
+use Rattle.std.proofs.Common.{rules}
+use Rattle.index.proofs.Searched.{is_key_there}
 use Rattle.index.proofs.search.PlaceOfSoughtPlace.matches.Goals as goal
 
-pub returns-in-Some : goal.returns-in-Some
-returns-in-Some g c =
-    alike_is c.same.result (g.K.Key.meaning c.args.self.now.key.now) (g.K.Key.meaning c.in-Some.key) c.same.ensures
-    ∙ ap (is_key (g.K.Key.meaning c.args.self.now.key.now)) c.in-Some.ensures
+pub returns : goal.returns
+returns g c =
+    is_key_there g.K.Key.meaning (g.K.Key.meaning c.args.self.now.key.now) _ c.key_at.result c.is_some_and.result _
+    (λ x p. search rules) c.is_some_and.ensures c.key_at.ensures
