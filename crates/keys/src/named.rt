@@ -1,30 +1,31 @@
 //! Named keys: 1 to 16 ASCII letters, digits, hyphens and underscores, in which small letters mean capital ones.
 
-ghost use Rattle.std.specs.Prelude.{◌≡◌, map, fold, IfSome, Some};
+ghost use Rattle.std.specs.Prelude.{◌≡◌, map, fold, take, IfSome, Some};
 ghost use Rattle.std.specs.Option.{option_map};
 ghost use Rattle.keys.specs.Hash.{hash_of, mixed};
 ghost use Rattle.keys.specs.Named.{folded, is_name_lem, name_byte, named_form, named_text};
 
 use crate::hash::{SEED, finish, mix};
 use crate::kind::{HashedKey, Key, WrittenKey};
-use arrayvec::ArrayString;
 use std::fmt;
 
 /// The most bytes that a name has.
 pub const LONGEST_NAME: usize = 16;
 
-/// A station by its name, kept as it was first spelled.
+/// A station by its name, kept as it was first spelled. In 17 bytes, since 512 records of two keys have to fit into little
+/// memory: a string of fixed room would take 24.
 #[derive(Clone, Copy)]
 pub struct NamedKey {
-    name: ArrayString<LONGEST_NAME>,
+    length: u8,
+    bytes: [u8; LONGEST_NAME],
 }
 
 impl NamedKey {
     /// The bytes of the name as it was spelled.
     pub fn spelling(&self) -> &[u8]
-        ensures { result.now ≡ self.now.name.bytes }
+        ensures { result.now ≡ take self.now.length self.now.bytes }
     {
-        self.name.as_str().as_bytes()
+        &self.bytes[..LONGEST_NAME.min(self.length as usize)]
     }
 }
 
@@ -53,18 +54,23 @@ fn is_name(bytes: &[u8]) -> bool
 
 /// The named key that `text` writes.
 pub fn read_named(text: &str) -> Option<NamedKey>
-    ensures value { option_map (λ k. map folded k.name.bytes) result ≡ named_text text.now }
-    ensures spelled { IfSome result (λ k. k.name.bytes ≡ text.now) }
+    ensures value { option_map (λ k. map folded (take k.length k.bytes)) result ≡ named_text text.now }
+    ensures spelled { IfSome result (λ k. take k.length k.bytes ≡ text.now) }
 {
-    if !is_name(text.as_bytes()) {
+    let spelling = text.as_bytes();
+    if !is_name(spelling) {
         return None;
     }
-    let name = ArrayString::from(text).ok()?;
-    Some(NamedKey { name })
+    let mut bytes = [0; LONGEST_NAME];
+    bytes[..spelling.len()].copy_from_slice(spelling);
+    Some(NamedKey {
+        length: spelling.len() as u8,
+        bytes,
+    })
 }
 
 impl Key for NamedKey {
-    ghost meaning = { λ k. map folded k.name.bytes };
+    ghost meaning = { λ k. map folded (take k.length k.bytes) };
 
     fn same(&self, other: &Self) -> bool {
         self.spelling().eq_ignore_ascii_case(other.spelling())
@@ -80,10 +86,10 @@ impl HashedKey for NamedKey {
 }
 
 impl fmt::Display for NamedKey {
-    ghost output = { λ k. Some k.name.bytes };
+    ghost output = { λ k. Some (take k.length k.bytes) };
 
     fn fmt<W: fmt::Write>(&self, f: &mut fmt::Formatter<W>) -> fmt::Result {
-        f.write_str(self.name.as_str())
+        f.write_str(std::str::from_utf8(self.spelling()).map_err(|_| fmt::Error)?)
     }
 }
 
