@@ -1,4 +1,5 @@
-//! Every call of a cache over its inner parts, each the plain machine's step.
+//! Every call of a cache over its inner parts, each the plain machine's step: the functions to which the methods of a cache
+//! hand its records on.
 #![tactic(auto)]
 
 mod claiming;

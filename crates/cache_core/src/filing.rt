@@ -18,7 +18,8 @@ impl<K: HashedKey, V: Copy> Inner<'_, K, V> {
     }
 }
 
-/// Takes the entry of a place, filed under the hash of the key in it, out of an index.
+/// Takes the entry of a place, filed under the hash of the key in it, out of an index. Of an index that a closure of
+/// `is_some_and` changes, a proof knows too little.
 fn unfile_key<K: HashedKey>(index: &mut KeyIndex, key: Option<K>, place: u16) -> bool
     ensures { Unfiled K.Key.meaning K.HashedKey.hashed index.old key place index.new }
 {

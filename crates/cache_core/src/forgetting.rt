@@ -16,12 +16,10 @@ impl<K: HashedKey, V: Copy> Inner<'_, K, V> {
         ensures within { Within K.Key.meaning K.HashedKey.hashed self.old → hash ≡ K.HashedKey.hashed (K.Key.meaning key.now) → ForgottenWithin K.Key.meaning K.HashedKey.hashed (K.Key.meaning key.now) self.new }
         ensures kept { OnlyGhost self.old self.new }
     {
-        match self.find_remembered(hash, key) {
-            Some(node) => {
-                self.remembered.unfile(hash, node);
-                self.policy.discard(node)
-            }
-            None => false,
-        }
+        let Some(node) = self.find_remembered(hash, key) else {
+            return false;
+        };
+        self.remembered.unfile(hash, node);
+        self.policy.discard(node)
     }
 }

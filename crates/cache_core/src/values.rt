@@ -7,7 +7,8 @@ use crate::inner::Inner;
 use keys::kind::HashedKey;
 use records::Record;
 
-/// Lays a value in a record; nothing changes where there is no such record.
+/// Lays a value in a record; nothing changes where there is no such record. By index, since a proof knows nothing of what
+/// is written through `get_mut`.
 fn lay_value<K: Copy, V: Copy>(records: &mut [Record<K, V>], place: u16, value: V)
     ensures { records.new ≡ valued records.old place value }
 {

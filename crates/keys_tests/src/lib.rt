@@ -25,21 +25,9 @@ mod tests {
         }
     }
 
-    fn fullest(buckets: &[u16]) -> u16 {
-        buckets.iter().copied().max().unwrap_or(0)
-    }
-
-    fn emptiest(buckets: &[u16]) -> u16 {
-        buckets.iter().copied().min().unwrap_or(0)
-    }
-
     // 4,096 hashes over 256 buckets are 16 a bucket, give or take 4: none is to be five such steps off.
-    fn check_even(rt: &impl Abort, spread: Spread) {
-        let Spread { low, top } = spread;
-        assert!(rt; fullest(&low) <= 36, "fullest by low bits");
-        assert!(rt; fullest(&top) <= 36, "fullest by top byte");
-        assert!(rt; emptiest(&low) >= 2, "emptiest by low bits");
-        assert!(rt; emptiest(&top) >= 2, "emptiest by top byte");
+    fn is_even(buckets: &[u16]) -> bool {
+        buckets.iter().all(|count| (2..=36).contains(count))
     }
 
     fn check_spread<F: Fn(u16) -> Result<u64, Fail>>(
@@ -55,7 +43,8 @@ mod tests {
         for number in 0..4096u16 {
             spread.count(hash_of(number)?);
         }
-        check_even(rt, spread);
+        assert!(rt; is_even(&spread.low), "by low bits");
+        assert!(rt; is_even(&spread.top), "by top byte");
         Ok(())
     }
 

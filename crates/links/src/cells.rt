@@ -6,7 +6,7 @@ ghost use Rattle.links.specs.Cells.{link_at, detached, attached};
 /// How many nodes a line has.
 pub const NODES: usize = 512;
 
-/// How many lists lie on a line; also the home of a node that is in none.
+/// How many lists lie on a line; also the home of a node that is in none, which as an `Option` would take a byte more.
 pub const LISTS: u8 = 4;
 
 /// The neighbours of a node or a sentinel.

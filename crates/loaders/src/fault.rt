@@ -47,7 +47,7 @@ impl Cause {
         }
     }
 
-    /// The line that the cause names, or 0.
+    /// The line that the cause names, or 0, as answers write it.
     pub fn line(&self) -> usize
         ensures { result ≡ cause_line self.now }
     {

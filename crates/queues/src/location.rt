@@ -1,6 +1,6 @@
 //! Where a place can be.
 
-/// The part of the cache that holds a place.
+/// The part of the cache that holds a place; that none does is a case, as in the Rust.
 #[derive(Clone, Copy, PartialEq, Eq)]
 pub enum Location {
     /// None: the place is free, or was never opened.

@@ -15,8 +15,8 @@ use Rattle.cache_core.proofs.Ghosts.{others}
 use Rattle.cache_core.proofs.Forgot.{holds_node_lem, forgets_none, node_there, node_word, node_apart, forgets_node, forgets_tied}
 use Rattle.cache_core.proofs.inner.Inner.forget.Goals as goal
 
-pub returns-in-Some : goal.returns-in-Some
-returns-in-Some g c =
+pub returns : goal.returns
+returns g c =
     let mean = g.K.Key.meaning in
     let hashed = g.K.HashedKey.hashed in
     let x = c.args.self.now in
@@ -56,14 +56,14 @@ returns-in-Some g c =
       kept = (refl, refl, c.discard.ensures.capacity, ap places after);
     }
 
-pub returns-in-None : goal.returns-in-None
-returns-in-None g c =
+pub returns-in_default : goal.returns-in_default
+returns-in_default g c =
     let mean = g.K.Key.meaning in
     let x = c.args.self.now in
     let rs = x.records.now in
     let s = view x.policy.core in
     let word = mean c.args.key.now in
-    let f = c.in-None.ensures in
+    let f = c.in_default.ensures in
     record {
       answer = λ t h. f.has t h;
       forgets = λ d t h. forgets_none {K = g.row.K.Denot} {V = g.row.V.Denot} mean rs word d s (sym (f.has t h));
