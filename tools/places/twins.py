@@ -40,6 +40,7 @@ def bodies(text):
 
 
 def shape(body):
+    body = re.sub(r",(\s*[)\]}])", r"\1", body)
     return " ".join(t if t in WORDS or not re.match(r"[\w\"']", t) else "_" for t in TOKEN.findall(body))
 
 

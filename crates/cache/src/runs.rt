@@ -12,8 +12,8 @@ use machine::call::{Answer, Call};
 use machine::refusal::Refusal;
 use records::Record;
 
-/// Lays an answer in its place: by index, since a proof knows nothing of what is written through `iter_mut`, and not in the
-/// loop, since that it lies within memory follows from the length of the slice as it was lent.
+/// Lays an answer in its place: by index, since a proof knows nothing of what is written through an adapter of `iter_mut`,
+/// and not in the loop, since that it lies within memory follows from the length of the slice as it was lent.
 fn lay_answer<V: Copy>(answers: &mut [Answer<V>], index: usize, answer: Answer<V>)
     requires { index < length answers.old }
     ensures { answers.new ≡ slice_set answers.old index answer }

@@ -69,7 +69,7 @@ impl GhostQueue {
         self.notes
             .line
             .push_front(noted.node, List::Remembered as u8);
-        // A node that was never opened counts as opened.
+        // A node that is used for the first time counts as opened from here on.
         self.notes.opened = self.notes.opened.max(noted.node + 1);
         Some(noted)
     }

@@ -12,8 +12,8 @@ use std::fmt;
 /// The most bytes that a name has.
 pub const LONGEST_NAME: usize = 16;
 
-/// A station by its name, kept as it was first spelled. In 17 bytes, since 512 records of two keys have to fit into little
-/// memory: a string of fixed room would take 24.
+/// A station by its name, kept as it was first spelled. In 17 bytes, since memory is short: a string of fixed room would
+/// take 24, and each record has two keys.
 #[derive(Clone, Copy)]
 pub struct NamedKey {
     length: u8,

@@ -46,10 +46,7 @@ impl Numeral for u16 {
 fn begins_signed(text: &[u8]) -> bool
     ensures { result ≡ negative text.now || plain text.now }
 {
-    match text {
-        [b'-', b'1'..=b'9', ..] => true,
-        digits => begins_plain(digits),
-    }
+    matches!(text, [b'-', b'1'..=b'9', ..]) || begins_plain(text)
 }
 
 impl Numeral for i32 {

@@ -295,13 +295,14 @@ fn as_values(op: Op, answer: u64, capacity: usize) -> (String, String) {
     let Op { hash, kind, place } = op;
     match (kind, answer) {
         (0, 1) => (format!("Call::Insert {{ hash: {hash}, place: {place} }}"), "Answer::Inserted(Ok(()))".into()),
-        (0, _) => (
+        (0, 109) => (
             format!("Call::Insert {{ hash: {hash}, place: {place} }}"),
             format!("Answer::Inserted(Err(TableRefusal::Full {{ capacity: {capacity} }}))"),
         ),
         (1, _) => (format!("Call::Remove {{ hash: {hash}, place: {place} }}"), format!("Answer::Removed({})", answer == 1)),
         (2, _) => ("Call::Clear".into(), "Answer::Cleared".into()),
-        _ => (format!("Call::Read {{ hash: {hash} }}"), format!("Answer::Read({answer})")),
+        (3, _) => (format!("Call::Read {{ hash: {hash} }}"), format!("Answer::Read({answer})")),
+        _ => panic!("no call of kind {kind} answers {answer}"),
     }
 }
 
