@@ -40,7 +40,7 @@ pub(crate) fn set_key<K: Copy, V: Copy>(
 {
     let place = place as usize;
     if place < records.len() {
-        records[place] = records[place].rekeyed(column, key);
+        records[place].rekey(column, key);
     }
 }
 

@@ -22,16 +22,13 @@ impl<K: Copy, V: Copy> Record<K, V> {
         }
     }
 
-    /// The record with another key in a column.
-    pub(crate) fn rekeyed(self, column: Column, key: K) -> Record<K, V>
-        ensures { result ≡ with_key column key self }
+    /// The key in a column becomes another; what else the record holds stays where it lies.
+    pub(crate) fn rekey(&mut self, column: Column, key: K)
+        ensures { self.new ≡ with_key column key self.old }
     {
         match column {
-            Column::Resident => Record { key, ..self },
-            Column::Remembered => Record {
-                remembered: key,
-                ..self
-            },
+            Column::Resident => self.key = key,
+            Column::Remembered => self.remembered = key,
         }
     }
 }
