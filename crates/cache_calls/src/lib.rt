@@ -18,6 +18,6 @@ pub use loading::fetch;
 pub use opening::{capacity, open};
 pub use reading::{contains, peek};
 pub use retaining::retain;
-pub use rule::AskedKeepRule;
+pub use rule::{AskedKeepRule, Unchanged};
 pub use using::{get, get_at};
 pub use writing::{put, remove, write_at};

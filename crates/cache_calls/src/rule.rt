@@ -19,13 +19,19 @@ pub trait AskedKeepRule<K: Key, V> {
         ensures meaning { keeps self.new ≡ keeps self.old };
 }
 
-/// A rule that asking does not change.
-impl<K: Key, V, R: KeepRule<K, V>> AskedKeepRule<K, V> for R {
-    ghost keeps = { R.KeepRule.keeps };
+/// A `KeepRule`, as a rule that asking does not change. It is a type of its own, since impls may not overlap: beside one for
+/// every `KeepRule` nobody could write a rule for every kind of key, or both traits for one type.
+#[derive(Clone, Copy, PartialEq, Eq, Debug)]
+pub struct Unchanged<R> {
+    pub rule: R,
+}
 
-    ghost after = { λ rule _ _. rule };
+impl<K: Key, V, R: KeepRule<K, V>> AskedKeepRule<K, V> for Unchanged<R> {
+    ghost keeps = { λ unchanged. R.KeepRule.keeps unchanged.rule };
+
+    ghost after = { λ unchanged _ _. unchanged };
 
     fn keep(&mut self, key: &K, value: &V) -> bool {
-        KeepRule::keep(self, key, value)
+        self.rule.keep(key, value)
     }
 }
