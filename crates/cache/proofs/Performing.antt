@@ -7,10 +7,11 @@ use Rattle.machine.specs.Machine.{Word, State, step}
 use Rattle.machine.specs.Run.{meant}
 use Rattle.cache_core.specs.declared.inner.Inner.{Inner}
 use Rattle.cache_core.specs.View.{state, bare}
+use Rattle.cache_core.specs.Tied.{Within}
+use Rattle.cache_calls.specs.Calls.{Does}
 use Rattle.cache_calls.specs.Retain.{rising}
 use Rattle.cache.specs.Records.{laid_by}
 use Rattle.cache.specs.Run.{stepped, state_from, answers_from, laid_from, Performed}
-use Rattle.cache.specs.Steps.{Steps}
 
 -- ## Lists
 
@@ -49,7 +50,7 @@ append_nothing : {A : Type 0} (xs : List A) → xs ++ [] ≡ xs
 append_nothing [] = refl
 append_nothing {A} (x ∷ xs) = ap (λ (l : List A). x ∷ l) (append_nothing xs)
 
-module _ {K V R : Type 0} (mean : K → Word) (keeps : R → Word → V → Bool) (loader : Word → Result V Fault) (x : Inner K V) (calls : List (Call K V R)) (before : List (Answer V)) (n : ℕ) (count : n ≡ min (length calls) (length before)) where
+module _ {K V R : Type 0} (mean : K → Word) (hashed : Word → ℕ) (keeps : R → Word → V → Bool) (loader : Word → Result V Fault) (x : Inner K V) (calls : List (Call K V R)) (before : List (Answer V)) (n : ℕ) (count : n ≡ min (length calls) (length before)) where
   abbrev c : ℕ
   c = x.policy.core.capacity
 
@@ -58,20 +59,21 @@ module _ {K V R : Type 0} (mean : K → Word) (keeps : R → Word → V → Bool
     pub leads : state_from mean keeps c loader (state mean d y) (drop i (take n calls)) ≡ state_from mean keeps c loader (state mean d x) (take n calls)
     pub tells : take i answers ++ answers_from mean keeps c loader (state mean d y) (drop i (take n calls)) ≡ answers_from mean keeps c loader (state mean d x) (take n calls)
     pub lays : laid_from mean keeps c loader (state mean d y) (drop i (take n calls)) (bare y.records.now) ≡ laid_from mean keeps c loader (state mean d x) (take n calls) (bare x.records.now)
+    pub right : Within mean hashed y
 
   pub record Midway (i : ℕ) (answers : List (Answer V)) (given : Word → Result V Fault) (y : Inner K V) : Type 0 where
     pub long : length answers ≡ length before
     pub meaning : given ≡ loader
     pub capacity : y.policy.core.capacity ≡ c
     pub rest : drop i answers ≡ drop i before
-    pub still : (d : V) → Still i answers y d
+    pub still : Within mean hashed x → (d : V) → Still i answers y d
 
   pub start : Midway 0 before loader x
-  start = record { long = refl; meaning = refl; capacity = refl; rest = refl; still = λ d. record { leads = refl; tells = refl; lays = refl } }
+  start = record { long = refl; meaning = refl; capacity = refl; rest = refl; still = λ t d. record { leads = refl; tells = refl; lays = refl; right = t } }
 
   module _ (i : ℕ) (low : i < n) (answers : List (Answer V)) (given given' : Word → Result V Fault) (y y' : Inner K V) (call : Call K V R) (a : Answer V) (is : call ≡ get_or calls i call) (m : Midway i answers given y)
-      (does : Steps mean (λ s. step y.policy.core.capacity given rising s (meant mean keeps call)) y a y')
-      (records : (d : V) → bare y'.records.now ≡ laid_by mean keeps y.policy.core.capacity given call (state mean d y) (bare y.records.now))
+      (does : Does mean hashed (λ s. step y.policy.core.capacity given rising s (meant mean keeps call)) y a y')
+      (records : Within mean hashed y → (d : V) → bare y'.records.now ≡ laid_by mean keeps y.policy.core.capacity given call (state mean d y) (bare y.records.now))
       (meaning : given' ≡ given) (capacity : y'.policy.core.capacity ≡ y.policy.core.capacity) where
     few : i < length answers
     few = let z = m.long in omega arith
@@ -80,21 +82,21 @@ module _ {K V R : Type 0} (mean : K → Word) (keeps : R → Word → V → Bool
     left = left_cons n i calls call low (omega arith) is
 
     -- the step as the machine of the start takes it
-    took : (d : V) → stepped mean keeps c loader (state mean d y) call ≡ (state mean d y', a)
-    took d =
+    took : (t : Within mean hashed y) (d : V) → stepped mean keeps c loader (state mean d y) call ≡ (state mean d y', a)
+    took t d =
         ap (λ (k : ℕ). stepped mean keeps k loader (state mean d y) call) (sym m.capacity)
-        ∙ (ap (λ (l : Word → Result V Fault). stepped mean keeps y.policy.core.capacity l (state mean d y) call) (sym m.meaning) ∙ does d)
+        ∙ (ap (λ (l : Word → Result V Fault). stepped mean keeps y.policy.core.capacity l (state mean d y) call) (sym m.meaning) ∙ (does t).0 d)
 
-    next : (d : V) → Still (suc i) (set answers i a) y' d
-    next d =
-        let s = m.still d in
+    next : (t : Within mean hashed x) (d : V) → Still (suc i) (set answers i a) y' d
+    next t d =
+        let s = m.still t d in
         let rest = drop (suc i) (take n calls) in
-        let st = took d in
+        let st = took s.right d in
         let go : (stepped mean keeps c loader (state mean d y) call).0 ≡ state mean d y' = ap (λ (p : State V × Answer V). p.0) st in
         let said : (stepped mean keeps c loader (state mean d y) call).1 ≡ a = ap (λ (p : State V × Answer V). p.1) st in
         let laid : laid_by mean keeps c loader call (state mean d y) (bare y.records.now) ≡ bare y'.records.now =
         ap (λ (k : ℕ). laid_by mean keeps k loader call (state mean d y) (bare y.records.now)) (sym m.capacity)
-        ∙ (ap (λ (l : Word → Result V Fault). laid_by mean keeps y.policy.core.capacity l call (state mean d y) (bare y.records.now)) (sym m.meaning) ∙ sym (records d)) in
+        ∙ (ap (λ (l : Word → Result V Fault). laid_by mean keeps y.policy.core.capacity l call (state mean d y) (bare y.records.now)) (sym m.meaning) ∙ sym (records s.right d)) in
         record {
           leads =
               sym (ap (state_from mean keeps c loader (state mean d y)) left ∙ ap (λ (z : State V). state_from mean keeps c loader z rest) go) ∙ s.leads;
@@ -111,6 +113,7 @@ module _ {K V R : Type 0} (mean : K → Word) (keeps : R → Word → V → Bool
               ∙ (ap (λ (z : State V). laid_from mean keeps c loader z rest (laid_by mean keeps c loader call (state mean d y) (bare y.records.now))) go
               ∙ ap (laid_from mean keeps c loader (state mean d y') rest) laid))
               ∙ s.lays;
+          right = (does s.right).1;
         }
 
     pub turn : Midway (suc i) (set answers i a) given' y'
@@ -123,18 +126,19 @@ module _ {K V R : Type 0} (mean : K → Word) (keeps : R → Word → V → Bool
           still = next;
         }
 
-  pub end : (answers : List (Answer V)) (given : Word → Result V Fault) (y : Inner K V) → Midway n answers given y → Performed mean keeps loader x calls before answers n y
+  pub end : (answers : List (Answer V)) (given : Word → Result V Fault) (y : Inner K V) → Midway n answers given y → Performed mean hashed keeps loader x calls before answers n y
   end answers given y m =
       record {
         count = count;
         rest = m.rest;
-        does = λ d.
-            (let s = m.still d in
+        does = λ t d.
+            (let s = m.still t d in
             let none = drop_all n calls in
             record {
               next = sym (ap (state_from mean keeps c loader (state mean d y)) none) ∙ s.leads;
               answers =
                   sym (ap (λ (l : List (Call K V R)). take n answers ++ answers_from mean keeps c loader (state mean d y) l) none ∙ append_nothing (take n answers)) ∙ s.tells;
               records = sym (ap (λ (l : List (Call K V R)). laid_from mean keeps c loader (state mean d y) l (bare y.records.now)) none) ∙ s.lays;
+              right = s.right;
             });
       }

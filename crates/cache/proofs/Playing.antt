@@ -14,6 +14,7 @@ use Rattle.machine_laws.proofs.Steps.{lawful}
 use Rattle.records.specs.declared.record.Record.{Record}
 use Rattle.cache_core.specs.declared.inner.Inner.{Inner}
 use Rattle.cache_core.specs.View.{state}
+use Rattle.cache_core.specs.Tied.{Within}
 use Rattle.cache_calls.specs.Retain.{rising}
 use Rattle.cache.specs.Run.{answers_from, run_of, Performed, Played}
 
@@ -61,17 +62,17 @@ module _ {K V R : Type 0} (mean : K → Word) (keeps : R → Word → V → Bool
   from_opening xs = sym (goes_on [] xs) ∙ ap told (append-nil (reverse xs))
 
 -- the list performed on an opened cache is played, over a table of at least one record
-module _ {K V R : Type 0} (mean : K → Word) (keeps : R → Word → V → Bool) (loader : Word → Result V Fault) (rs : List (Record K V)) (x y : Inner K V) (calls : List (Call K V R)) (before after : List (Answer V)) (n : ℕ) (m : ℕ) where
+module _ {K V R : Type 0} (mean : K → Word) (hashed : Word → ℕ) (keeps : R → Word → V → Bool) (loader : Word → Result V Fault) (rs : List (Record K V)) (x y : Inner K V) (calls : List (Call K V R)) (before after : List (Answer V)) (n : ℕ) (m : ℕ) where
   pub played :
-      measured (length rs) ≡ Ok m → x.policy.core.capacity ≡ opened_with (length rs) → ((d : V) → state mean d x ≡ nothing) →
-      Performed mean keeps loader x calls before after n y → Played mean keeps (length rs) loader calls before after n
-  played measures capacity empty p =
+      measured (length rs) ≡ Ok m → x.policy.core.capacity ≡ opened_with (length rs) → ((d : V) → state mean d x ≡ nothing) → Within mean hashed x →
+      Performed mean hashed keeps loader x calls before after n y → Played mean keeps (length rs) loader calls before after n
+  played measures capacity empty right p =
       let f = fits (length rs) m measures in
       record {
         some = f.some;
         few = f.few;
         count = p.count;
-        answers = answers_of rs f.some (λ d. (p.does d).answers ∙ (ap (λ (s : State V). answers_from mean keeps x.policy.core.capacity loader s (take n calls)) (empty d)
+        answers = answers_of rs f.some (λ d. (p.does right d).answers ∙ (ap (λ (s : State V). answers_from mean keeps x.policy.core.capacity loader s (take n calls)) (empty d)
             ∙ ap (λ (c : ℕ). answers_from mean keeps c loader nothing (take n calls)) (capacity ∙ f.opened)
             ∙ from_opening mean keeps (length rs) loader (take n calls)));
         rest = p.rest;

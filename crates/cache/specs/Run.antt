@@ -10,6 +10,7 @@ use Rattle.machine.specs.Run.{event_of, state_after, history, meant}
 use Rattle.machine_laws.specs.Laws.{Lawful, LawfulEvent}
 use Rattle.cache_core.specs.declared.inner.Inner.{Inner}
 use Rattle.cache_core.specs.View.{state, bare}
+use Rattle.cache_core.specs.Tied.{Within}
 use Rattle.cache_calls.specs.Retain.{rising}
 use Rattle.cache.specs.Records.{laid_by}
 
@@ -39,18 +40,19 @@ module _ {K V R : Type 0} (mean : K → Word) (keeps : R → Word → V → Bool
 
 -- ## A list of calls on a cache
 
-module _ {K V R : Type 0} (mean : K → Word) (keeps : R → Word → V → Bool) (loader : Word → Result V Fault) where
-  -- n calls lead, answer and lay as the machine does
+module _ {K V R : Type 0} (mean : K → Word) (hashed : Word → ℕ) (keeps : R → Word → V → Bool) (loader : Word → Result V Fault) where
+  -- where the indexes are right, n calls lead, answer and lay as the machine does, and the indexes are right afterwards
   pub record Performs (x : Inner K V) (calls : List (Call K V R)) (n : ℕ) (after : List (Answer V)) (y : Inner K V) (d : V) : Type 0 where
     pub next : state mean d y ≡ state_from mean keeps x.policy.core.capacity loader (state mean d x) (take n calls)
     pub answers : take n after ≡ answers_from mean keeps x.policy.core.capacity loader (state mean d x) (take n calls)
     pub records : bare y.records.now ≡ laid_from mean keeps x.policy.core.capacity loader (state mean d x) (take n calls) (bare x.records.now)
+    pub right : Within mean hashed y
 
   -- as many calls as there is room for answers; the rest of the answers stay
   pub record Performed (x : Inner K V) (calls : List (Call K V R)) (before after : List (Answer V)) (n : ℕ) (y : Inner K V) : Type 0 where
     pub count : n ≡ min (length calls) (length before)
     pub rest : drop n after ≡ drop n before
-    pub does : (d : V) → Performs x calls n after y d
+    pub does : Within mean hashed x → (d : V) → Performs x calls n after y d
 
 -- ## A run from the opening on
 

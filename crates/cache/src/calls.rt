@@ -1,13 +1,14 @@
-//! Opening and the calls. Each contract says: the answer and the next state are those of the plain machine's step.
+//! Opening and the calls. Each contract says: where the indexes are right, the answer and the next state are those of
+//! the plain machine's step, and the indexes are right afterwards; opening makes them right.
 
 ghost use Rattle.std.specs.Prelude.{◌≡◌, false, length};
 ghost use Rattle.machine.specs.Measure.{measured, opened_with};
 ghost use Rattle.machine.specs.Replacement.{nothing};
 ghost use Rattle.machine.specs.Machine.{contains as is_resident, peek as found, get as used, get_at as used_at, put as placed, fetch as fetched, claim as claimed, write_at_lem as written, remove as removed, look};
 ghost use Rattle.cache_core.specs.View.{state, bare};
-ghost use Rattle.cache_calls.specs.Calls.{put_lays, fetch_lays, claim_lays, write_lays, asks};
+ghost use Rattle.cache_core.specs.Tied.{Within};
+ghost use Rattle.cache_calls.specs.Calls.{Tells, Does, put_lays, fetch_lays, claim_lays, write_lays, asks};
 ghost use Rattle.cache_calls.specs.Retain.{retained, asked_each};
-ghost use Rattle.cache.specs.Steps.{Says, Steps};
 
 use crate::cache::Cache;
 use cache_calls::AskedKeepRule;
@@ -29,6 +30,7 @@ impl<'a, K: HashedKey, V: Copy> Cache<'a, K, V> {
     pub fn open(records: &'a mut [Record<K, V>]) -> Cache<'a, K, V>
         ensures capacity { result.inner.policy.core.capacity ≡ opened_with (length records.old) }
         ensures state { (d : V) → state K.Key.meaning d result.inner ≡ nothing }
+        ensures right { Within K.Key.meaning K.HashedKey.hashed result.inner }
         ensures records { result.inner.records.now ≡ records.old }
     {
         Cache {
@@ -45,21 +47,21 @@ impl<'a, K: HashedKey, V: Copy> Cache<'a, K, V> {
 
     /// Whether a key is resident.
     pub fn contains(&self, key: &K) -> bool
-        ensures { Says K.Key.meaning (λ s. is_resident s (K.Key.meaning key.now)) self.now.inner result }
+        ensures { Tells K.Key.meaning K.HashedKey.hashed (λ s. is_resident s (K.Key.meaning key.now)) self.now.inner result }
     {
         cache_calls::contains(&self.inner, key)
     }
 
     /// The value of a resident key; no use.
     pub fn peek(&self, key: &K) -> Option<V>
-        ensures { Says K.Key.meaning (λ s. found s (K.Key.meaning key.now)) self.now.inner result }
+        ensures { Tells K.Key.meaning K.HashedKey.hashed (λ s. found s (K.Key.meaning key.now)) self.now.inner result }
     {
         cache_calls::peek(&self.inner, key)
     }
 
     /// The value of a resident key, which is a use.
     pub fn get(&mut self, key: &K) -> Option<V>
-        ensures does { Steps K.Key.meaning (λ s. used s (K.Key.meaning key.now)) self.old.inner result self.new.inner }
+        ensures does { Does K.Key.meaning K.HashedKey.hashed (λ s. used s (K.Key.meaning key.now)) self.old.inner result self.new.inner }
         ensures records { self.new.inner.records.now ≡ self.old.inner.records.now }
         ensures capacity { self.new.inner.policy.core.capacity ≡ self.old.inner.policy.core.capacity }
     {
@@ -68,7 +70,7 @@ impl<'a, K: HashedKey, V: Copy> Cache<'a, K, V> {
 
     /// The value of a key that is resident in this place, which is a use.
     pub fn get_at(&mut self, place: usize, key: &K) -> Option<V>
-        ensures does { Steps K.Key.meaning (λ s. used_at s place (K.Key.meaning key.now)) self.old.inner result self.new.inner }
+        ensures does { Does K.Key.meaning K.HashedKey.hashed (λ s. used_at s place (K.Key.meaning key.now)) self.old.inner result self.new.inner }
         ensures records { self.new.inner.records.now ≡ self.old.inner.records.now }
         ensures capacity { self.new.inner.policy.core.capacity ≡ self.old.inner.policy.core.capacity }
     {
@@ -78,8 +80,8 @@ impl<'a, K: HashedKey, V: Copy> Cache<'a, K, V> {
     /// Lays a value under a key and answers the old value of a resident, which is a use, or the report of how the key
     /// came in. At capacity 0 it is refused.
     pub fn put(&mut self, key: K, value: V) -> Result<Placed<V>, Refusal>
-        ensures does { Steps K.Key.meaning (λ s. placed self.old.inner.policy.core.capacity s (K.Key.meaning key) value) self.old.inner result self.new.inner }
-        ensures records { (d : V) → bare self.new.inner.records.now ≡ put_lays result (look (K.Key.meaning key) (state K.Key.meaning d self.old.inner)) key value (bare self.old.inner.records.now) }
+        ensures does { Does K.Key.meaning K.HashedKey.hashed (λ s. placed self.old.inner.policy.core.capacity s (K.Key.meaning key) value) self.old.inner result self.new.inner }
+        ensures records { Within K.Key.meaning K.HashedKey.hashed self.old.inner → (d : V) → bare self.new.inner.records.now ≡ put_lays result (look (K.Key.meaning key) (state K.Key.meaning d self.old.inner)) key value (bare self.old.inner.records.now) }
         ensures capacity { self.new.inner.policy.core.capacity ≡ self.old.inner.policy.core.capacity }
     {
         cache_calls::put(&mut self.inner, key, value)
@@ -89,8 +91,8 @@ impl<'a, K: HashedKey, V: Copy> Cache<'a, K, V> {
     /// The loader is asked only for a key that is not resident, and its fault changes nothing. At capacity 0 the call
     /// is refused.
     pub fn fetch<L: Loader<K, V>>(&mut self, loader: &mut L, key: K) -> Result<Fetched<V>, Refusal>
-        ensures does { Steps K.Key.meaning (λ s. fetched self.old.inner.policy.core.capacity (L.Loader.given loader.old) s (K.Key.meaning key)) self.old.inner result self.new.inner }
-        ensures records { bare self.new.inner.records.now ≡ fetch_lays result key (bare self.old.inner.records.now) }
+        ensures does { Does K.Key.meaning K.HashedKey.hashed (λ s. fetched self.old.inner.policy.core.capacity (L.Loader.given loader.old) s (K.Key.meaning key)) self.old.inner result self.new.inner }
+        ensures records { Within K.Key.meaning K.HashedKey.hashed self.old.inner → bare self.new.inner.records.now ≡ fetch_lays result key (bare self.old.inner.records.now) }
         ensures meaning { L.Loader.given loader.new ≡ L.Loader.given loader.old }
         ensures unasked { asks result ≡ false → loader.new ≡ loader.old }
         ensures capacity { self.new.inner.policy.core.capacity ≡ self.old.inner.policy.core.capacity }
@@ -102,8 +104,8 @@ impl<'a, K: HashedKey, V: Copy> Cache<'a, K, V> {
     /// in. A reused place keeps its old value, and the given one is laid only in a place never opened. At capacity 0
     /// the call is refused.
     pub fn claim(&mut self, key: K, given: V) -> Result<Claimed<V>, Refusal>
-        ensures does { Steps K.Key.meaning (λ s. claimed self.old.inner.policy.core.capacity s (K.Key.meaning key) given) self.old.inner result self.new.inner }
-        ensures records { bare self.new.inner.records.now ≡ claim_lays result key (bare self.old.inner.records.now) }
+        ensures does { Does K.Key.meaning K.HashedKey.hashed (λ s. claimed self.old.inner.policy.core.capacity s (K.Key.meaning key) given) self.old.inner result self.new.inner }
+        ensures records { Within K.Key.meaning K.HashedKey.hashed self.old.inner → bare self.new.inner.records.now ≡ claim_lays result key (bare self.old.inner.records.now) }
         ensures capacity { self.new.inner.policy.core.capacity ≡ self.old.inner.policy.core.capacity }
     {
         cache_calls::claim(&mut self.inner, key, given)
@@ -111,7 +113,7 @@ impl<'a, K: HashedKey, V: Copy> Cache<'a, K, V> {
 
     /// Replaces the value of a key that is resident in this place; no use. Elsewhere the call is refused.
     pub fn write_at(&mut self, place: usize, key: &K, value: V) -> Result<(), Refusal>
-        ensures does { Steps K.Key.meaning (λ s. written s place (K.Key.meaning key.now) value) self.old.inner result self.new.inner }
+        ensures does { Does K.Key.meaning K.HashedKey.hashed (λ s. written s place (K.Key.meaning key.now) value) self.old.inner result self.new.inner }
         ensures records { bare self.new.inner.records.now ≡ write_lays result place value (bare self.old.inner.records.now) }
         ensures capacity { self.new.inner.policy.core.capacity ≡ self.old.inner.policy.core.capacity }
     {
@@ -120,7 +122,7 @@ impl<'a, K: HashedKey, V: Copy> Cache<'a, K, V> {
 
     /// Takes a resident key out, and says whether there was one; an absent key leaves Ghost.
     pub fn remove(&mut self, key: &K) -> bool
-        ensures does { Steps K.Key.meaning (λ s. removed s (K.Key.meaning key.now)) self.old.inner result self.new.inner }
+        ensures does { Does K.Key.meaning K.HashedKey.hashed (λ s. removed s (K.Key.meaning key.now)) self.old.inner result self.new.inner }
         ensures records { self.new.inner.records.now ≡ self.old.inner.records.now }
         ensures capacity { self.new.inner.policy.core.capacity ≡ self.old.inner.policy.core.capacity }
     {
@@ -130,8 +132,8 @@ impl<'a, K: HashedKey, V: Copy> Cache<'a, K, V> {
     /// Drops the residents that a rule refuses, and their places go onto the free stack in rising order. The rule is
     /// asked once for each resident, by rising place.
     pub fn retain<R: AskedKeepRule<K, V>>(&mut self, rule: &mut R)
-        ensures does { Steps K.Key.meaning (retained (R.AskedKeepRule.keeps rule.old)) self.old.inner result self.new.inner }
-        ensures asked { (d : V) → rule.new ≡ asked_each R.AskedKeepRule.after rule.old (state K.Key.meaning d self.old.inner) }
+        ensures does { Does K.Key.meaning K.HashedKey.hashed (retained (R.AskedKeepRule.keeps rule.old)) self.old.inner result self.new.inner }
+        ensures asked { Within K.Key.meaning K.HashedKey.hashed self.old.inner → (d : V) → rule.new ≡ asked_each R.AskedKeepRule.after rule.old (state K.Key.meaning d self.old.inner) }
         ensures meaning { R.AskedKeepRule.keeps rule.new ≡ R.AskedKeepRule.keeps rule.old }
         ensures records { self.new.inner.records.now ≡ self.old.inner.records.now }
         ensures capacity { self.new.inner.policy.core.capacity ≡ self.old.inner.policy.core.capacity }
@@ -141,7 +143,7 @@ impl<'a, K: HashedKey, V: Copy> Cache<'a, K, V> {
 
     /// Forgets everything: the cache is as it was opened, and the records lie as they are.
     pub fn clear(&mut self)
-        ensures does { Steps K.Key.meaning (λ s. (nothing, result)) self.old.inner result self.new.inner }
+        ensures does { Does K.Key.meaning K.HashedKey.hashed (λ s. (nothing, result)) self.old.inner result self.new.inner }
         ensures records { self.new.inner.records.now ≡ self.old.inner.records.now }
         ensures capacity { self.new.inner.policy.core.capacity ≡ self.old.inner.policy.core.capacity }
     {

@@ -30,7 +30,7 @@ impl<'a, K: HashedKey, V: Copy> Cache<'a, K, V> {
         calls: &[Call<K, V, R>],
         answers: &mut [Answer<V>],
     ) -> usize
-        ensures performed { Performed K.Key.meaning R.AskedKeepRule.keeps (L.Loader.given loader.old) self.old.inner calls.now answers.old answers.new result self.new.inner }
+        ensures performed { Performed K.Key.meaning K.HashedKey.hashed R.AskedKeepRule.keeps (L.Loader.given loader.old) self.old.inner calls.now answers.old answers.new result self.new.inner }
         ensures meaning { L.Loader.given loader.new ≡ L.Loader.given loader.old }
         ensures capacity { self.new.inner.policy.core.capacity ≡ self.old.inner.policy.core.capacity }
     {
@@ -55,5 +55,6 @@ pub fn play<K: HashedKey, V: Copy, L: Loader<K, V>, R: AskedKeepRule<K, V> + Cop
     ensures meaning { L.Loader.given loader.new ≡ L.Loader.given loader.old }
 {
     measure(records)?;
-    Ok(Cache::open(records).perform_all(loader, calls, answers))
+    let mut cache = Cache::open(records);
+    Ok(cache.perform_all(loader, calls, answers))
 }

@@ -4,9 +4,10 @@ ghost use Rattle.std.specs.Prelude.{◌≡◌};
 ghost use Rattle.machine.specs.Machine.{step};
 ghost use Rattle.machine.specs.Run.{meant};
 ghost use Rattle.cache_core.specs.View.{bare, state};
+ghost use Rattle.cache_core.specs.Tied.{Within};
+ghost use Rattle.cache_calls.specs.Calls.{Does};
 ghost use Rattle.cache_calls.specs.Retain.{rising};
 ghost use Rattle.cache.specs.Records.{laid_by};
-ghost use Rattle.cache.specs.Steps.{Steps};
 
 use crate::cache::Cache;
 use cache_calls::AskedKeepRule;
@@ -21,8 +22,8 @@ impl<'a, K: HashedKey, V: Copy> Cache<'a, K, V> {
         loader: &mut L,
         call: &Call<K, V, R>,
     ) -> Answer<V>
-        ensures does { Steps K.Key.meaning (λ s. step self.old.inner.policy.core.capacity (L.Loader.given loader.old) rising s (meant K.Key.meaning R.AskedKeepRule.keeps call.now)) self.old.inner result self.new.inner }
-        ensures records { (d : V) → bare self.new.inner.records.now ≡ laid_by K.Key.meaning R.AskedKeepRule.keeps self.old.inner.policy.core.capacity (L.Loader.given loader.old) call.now (state K.Key.meaning d self.old.inner) (bare self.old.inner.records.now) }
+        ensures does { Does K.Key.meaning K.HashedKey.hashed (λ s. step self.old.inner.policy.core.capacity (L.Loader.given loader.old) rising s (meant K.Key.meaning R.AskedKeepRule.keeps call.now)) self.old.inner result self.new.inner }
+        ensures records { Within K.Key.meaning K.HashedKey.hashed self.old.inner → (d : V) → bare self.new.inner.records.now ≡ laid_by K.Key.meaning R.AskedKeepRule.keeps self.old.inner.policy.core.capacity (L.Loader.given loader.old) call.now (state K.Key.meaning d self.old.inner) (bare self.old.inner.records.now) }
         ensures meaning { L.Loader.given loader.new ≡ L.Loader.given loader.old }
         ensures capacity { self.new.inner.policy.core.capacity ≡ self.old.inner.policy.core.capacity }
     {
