@@ -1,5 +1,8 @@
 -- What is read off the records, and the capacity that they are opened with.
-use Rattle.std.proofs.Common.{◌≡◌, ℕ, zero, suc, ◌<◌, ◌≤◌, Bool, true, false, cond, leb, List, [], ◌∷◌, length, get_or, sym, refl, ap, ◌∙◌, le_of_suc-le-suc, arith}
+use Rattle.std.proofs.Common.{◌≡◌, ℕ, zero, suc, ◌<◌, ◌≤◌, Bool, true, false, cond, eqb, leb, List, [], ◌∷◌, length, get_or, Ok, Err, sym, refl, ap, ◌∙◌, inl, inr, le_of_suc-le-suc, arith}
+use Rattle.std.proofs.lemmas.Bool.Decides.{eqb_tells}
+use Rattle.machine.specs.declared.refusal.Refusal.TheVariants.{NoRecords, TooManyRecords}
+use Rattle.machine.specs.Measure.{or_none, opened_with}
 use Rattle.policy.specs.View.{allowed}
 use Rattle.records.specs.declared.record.Record.{Record}
 use Rattle.cache_core.specs.View.{value_at, bare, rekeyed}
@@ -8,6 +11,16 @@ pub value_read : {K V : Type 0} (d : V) (rs : List (Record K V)) (p : ℕ) (x : 
 value_read d [] p x h = absurd (omega arith)
 value_read d (r ∷ rs) zero x h = refl
 value_read d (r ∷ rs) (suc p) x h = value_read d rs p x (le_of_suc-le-suc h)
+
+opened_by : (n : ℕ) (none few : Bool) → (none ≡ true → n ≡ 0) → cond few n 0 ≡ or_none (cond none (Err NoRecords) (cond few (Ok n) (Err (TooManyRecords n))))
+opened_by n true true zero_is = zero_is refl
+opened_by n true false zero_is = refl
+opened_by n false true zero_is = refl
+opened_by n false false zero_is = refl
+
+pub allowed_opened : (n : ℕ) → allowed n ≡ opened_with n
+allowed_opened n =
+    opened_by n (eqb n 0) (leb n 512) (λ e. elim (eqb_tells n 0) [ inl s ↦ s.1 | inr s ↦ absurd (let z : ◌≡◌ {A = ℕ} 0 1 = (let q : true ≡ false = sym e ∙ s.0 in cc) in omega arith) ])
 
 allowed_few : (n : ℕ) (b : Bool) → cond b n 0 ≤ n
 allowed_few n true = omega arith

@@ -11,7 +11,7 @@ use Rattle.records.specs.declared.column.Column.{Column}
 use Rattle.records.specs.declared.column.Column.TheVariants.{Resident as of_resident, Remembered as of_ghost}
 use Rattle.records.specs.declared.record.Record.{Record}
 use Rattle.records.specs.Columns.{keyed}
-use Rattle.records.proofs.Keyed.{key_here, remembered_stays}
+use Rattle.records.proofs.Keyed.{key_here, key_elsewhere, remembered_stays, resident_stays}
 use Rattle.cache_core.specs.View.{places, or_empty, value_at, word_in, item_at, cell_at, seen}
 use Rattle.cache_core.proofs.Looked.{here}
 use Rattle.cache_core.proofs.Leaving.{items, items_append, from_small, note_free, ghost_switch, small_place}
@@ -29,11 +29,17 @@ module _ {K V : Type 0} where
   value_keyed d column (r ∷ rs) (suc p) k (suc q) = value_keyed d column rs p k q
 
   module _ (mean : K → List ℕ) where
+    pub word_keyed : (column : Column) (rs : List (Record K V)) (p : ℕ) (k : K) (q : ℕ) → (q ≡ p → ⊥) → word_in mean column (keyed column rs p k) q ≡ word_in mean column rs q
+    word_keyed column rs p k q ne = ap (λ o. or_empty (option_map mean o)) (key_elsewhere column rs p k q ne)
+
     pub word_laid : (column : Column) (rs : List (Record K V)) (p : ℕ) (k : K) → p < length rs → word_in mean column (keyed column rs p k) p ≡ mean k
     word_laid column rs p k h = ap (λ o. or_empty (option_map mean o)) (key_here column rs p k h)
 
     pub ghost_keyed : (rs : List (Record K V)) (p : ℕ) (k : K) (q : ℕ) → word_in mean of_ghost (keyed of_resident rs p k) q ≡ word_in mean of_ghost rs q
     ghost_keyed rs p k q = ap (λ o. or_empty (option_map mean o)) (remembered_stays rs p k q)
+
+    pub resident_keyed : (rs : List (Record K V)) (p : ℕ) (k : K) (q : ℕ) → word_in mean of_resident (keyed of_ghost rs p k) q ≡ word_in mean of_resident rs q
+    resident_keyed rs p k q = ap (λ o. or_empty (option_map mean o)) (resident_stays rs p k q)
 
 -- ## Carrying by functions that agree
 

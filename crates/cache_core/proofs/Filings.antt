@@ -1,5 +1,5 @@
 -- The steps of an insertion, from what the calls of index and records promise.
-use Rattle.std.proofs.Common.{◌≡◌, ℕ, zero, suc, ◌<◌, Bool, true, false, cond, List, [], ◌∷◌, length, is_some, Some, Option, Result, sym, refl, ap, ◌∙◌, subst, inl, inr, le_of_suc-le-suc, arith}
+use Rattle.std.proofs.Common.{◌≡◌, ℕ, zero, suc, ◌<◌, Bool, true, false, cond, List, [], ◌∷◌, length, is_some, Some, None, Option, Result, sym, refl, ap, ◌∙◌, subst, inl, inr, le_of_suc-le-suc, arith}
 use Rattle.std.specs.Option.{option_map}
 use Rattle.std.proofs.lemmas.Bool.Decides.{leb_tells}
 use Rattle.handles.specs.declared.refusal.TableRefusal.{TableRefusal}
@@ -7,6 +7,7 @@ use Rattle.index.specs.declared.index.KeyIndex.{KeyIndex}
 use Rattle.handle_laws.specs.Runs.{how_many}
 use Rattle.index.specs.Filed.{bears, size}
 use Rattle.index.specs.Ties.{occurs, Ties, TiesOut}
+use Rattle.index.proofs.Firsts.{not_both}
 use Rattle.index.proofs.Joined.{ties_alike, alike_kept}
 use Rattle.records.specs.declared.column.Column.{Column}
 use Rattle.records.specs.declared.column.Column.TheVariants.{Resident, Remembered}
@@ -18,6 +19,9 @@ use Rattle.cache_core.proofs.Ghosts.{others, absent_kept, others_gone, others_no
 module _ {K : Type 0} (mean : K → List ℕ) (hashed : List ℕ → ℕ) where
   pub unfiled_some : (i j : KeyIndex) (key : K) (place hash : ℕ) (r : Bool) → hash ≡ hashed (mean key) → TiesOut i hash place r j → Unfiled mean hashed i (Some key) place j
   unfiled_some i j key place hash r h out = λ lying ps lies some t. (out hashed lying ps (mean key) t lies h).1
+
+  pub unfiled_none : (i : KeyIndex) (place : ℕ) → Unfiled mean hashed i None place i
+  unfiled_none i place = λ lying ps lies some t. absurd (not_both false some refl)
 
   module _ {V : Type 0} where
     some_key : (column : Column) (rs : List (Record K V)) (p : ℕ) → p < length rs → is_some (key_at_lem column rs p) ≡ true

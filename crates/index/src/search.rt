@@ -17,6 +17,6 @@ impl<'k, 'p, K: Key, P: KeyPlaces<K>> Sought<Place> for PlaceOf<'k, 'p, K, P> {
     fn matches(&self, handle: Place) -> bool {
         self.places
             .key_at(handle.0)
-            .is_some_and(|key| self.key.same(&key))
+            .map_or(false, |key| self.key.same(&key))
     }
 }

@@ -26,6 +26,10 @@ pub no_last : (xs : List ℕ) → None ≡ last_of xs → xs ≡ []
 no_last [] e = refl
 no_last (x ∷ xs) e = let z : ◌≡◌ {A = ℕ} 0 1 = cc in absurd (omega arith)
 
+pub no_first : (xs : List ℕ) → None ≡ first_of xs → xs ≡ []
+no_first [] e = refl
+no_first (x ∷ xs) e = let z : ◌≡◌ {A = ℕ} 0 1 = cc in absurd (omega arith)
+
 pub record Begins (xs : List ℕ) (p : ℕ) : Type 0 where
   pub rest : List ℕ
   pub is : xs ≡ p ∷ rest

@@ -1,5 +1,5 @@
 -- The part that holds a place, by the list that does.
-use Rattle.std.proofs.Common.{◌≡◌, ℕ, ◌+◌, ◌<◌, ◌≤◌, true, false, ◌⊎◌, ◌++◌, map, Some, None, Option, sym, refl, ◌∙◌, inl, inr, arith}
+use Rattle.std.proofs.Common.{◌≡◌, ℕ, ◌+◌, ◌<◌, ◌≤◌, true, false, ◌⊎◌, ◌++◌, map, Some, None, Option, Bool, sym, refl, ◌∙◌, inl, inr, arith}
 use Rattle.std.proofs.lemmas.Bool.{cases_lt, le-ltb, ne_eqb}
 use Rattle.links.specs.Lists.{lists}
 use Rattle.links.specs.Rows.{occurs, holder}
@@ -10,7 +10,7 @@ use Rattle.queues.specs.declared.slots.Slots.{Slots}
 use Rattle.queues.specs.declared.location.Location.{Location}
 use Rattle.queues.specs.declared.location.Location.TheVariants.{Free, Small, Main}
 use Rattle.queues.specs.Slots.{list_of, home_in}
-use Rattle.queues.specs.Held.{resident, parts_of, locate, has, part_at}
+use Rattle.queues.specs.Held.{resident, parts_of, locate, has, part_at, resides}
 use Rattle.queues.proofs.Maps.{has_some, has_none}
 use Rattle.queues.proofs.Sound.{in_list, out_of_list}
 
@@ -83,6 +83,18 @@ module _ (s : Slots) (p : ℕ) where
       ]
 
   -- and back: what a location says of the home
+  pub resides_is : resides p (parts_of s) ≡ true → home_in s p < 3
+  resides_is h =
+      elim (cases_lt (home_in s p) 3) [
+        | inl l ↦ l
+        | inr g ↦
+            let a = out_of_small (omega arith) in
+            let b = not_main (out_of_list s p 2 (omega arith) (λ i. omega arith)) in
+            let z : ◌≡◌ {A = Bool} false true = (rw (a, b) at h) in
+            let w : ◌≡◌ {A = ℕ} 0 1 = cc in
+            absurd (omega arith)
+      ]
+
   pub free_is : Free ≡ locate p (parts_of s) → 3 ≤ home_in s p
   free_is h =
       elim (cases_lt (home_in s p) 2) [

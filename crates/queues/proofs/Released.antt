@@ -16,6 +16,15 @@ use Rattle.queues.proofs.Maps.{kept_without, kept_only}
 use Rattle.queues.proofs.Sound.{one_in_all, out_of_list, home_low}
 use Rattle.queues.proofs.Moved.{Restated, residents_kept}
 
+pub resides_not : (p : ℕ) (s : Parts ℕ ℕ ℕ) → Free ≡ locate p s → false ≡ resides p s
+resides_not p s =
+    go (has p s.small) (has p s.main)
+  where
+    go : (a b : Bool) → Free ≡ cond a Small (cond b Main Free) → false ≡ (a || b)
+    go true b e = let z : ◌≡◌ {A = ℕ} 0 1 = cc in absurd (omega arith)
+    go false true e = let z : ◌≡◌ {A = ℕ} 0 1 = cc in absurd (omega arith)
+    go false false e = refl
+
 pub resides_so : (p : ℕ) (s : Parts ℕ ℕ ℕ) → (locate p s ≡ Free → ⊥) → true ≡ resides p s
 resides_so p s =
     go (has p s.small) (has p s.main)

@@ -1,6 +1,6 @@
 -- Main's hand, and a sweep as so many turns of it.
-use Rattle.std.proofs.Common.{◌≡◌, ℕ, zero, suc, ◌+◌, ◌<◌, ◌≤◌, Bool, true, false, List, [], ◌∷◌, ◌++◌, map, length, take, drop, Some, Option, sym, refl, ap, ◌∙◌, add-one, arith}
-use Rattle.std.proofs.lemmas.List.{append_assoc, map-append}
+use Rattle.std.proofs.Common.{◌≡◌, ℕ, zero, suc, ◌+◌, ◌<◌, ◌≤◌, Bool, true, false, List, [], ◌∷◌, ◌++◌, map, length, take, drop, Some, None, Option, sym, refl, ap, ◌∙◌, add-one, arith}
+use Rattle.std.proofs.lemmas.List.{append_assoc, map-append, length-append, length-map, take-append-drop}
 use Rattle.links.specs.Rows.{occurs, first_of}
 use Rattle.links.proofs.Counts.{occurs_same}
 use Rattle.machine.specs.Replacement.{Resident, Parts, Swept, marked, plain, is_used, sweep_from, sweep}
@@ -104,9 +104,24 @@ at_hand (r ∷ rs) p u e =
     let i : ◌≡◌ {A = ℕ × Bool} (p, u) (r.item, is_used r.mark) = cc in
     record { first = r; rest = rs; is = refl; place = ap (λ (x : ℕ × Bool). x.0) i; used = ap (λ (x : ℕ × Bool). x.1) i }
 
+pub no_hand : (ms : List (Resident ℕ)) → None ≡ hand_at ms → ms ≡ []
+no_hand [] e = refl
+no_hand (r ∷ rs) e = let z : ◌≡◌ {A = ℕ} 0 1 = cc in absurd (omega arith)
+
+pub length_after : (n : ℕ) (xs : List (Resident ℕ)) → length (after n xs) ≡ length xs
+length_after n xs =
+    let a = length-append (drop n xs) (calmed (take n xs)) in
+    let b = length-map (take n xs) (marked plain) in
+    let c = length-append (take n xs) (drop n xs) in
+    let d = ap (λ (ys : List (Resident ℕ)). length ys) (take-append-drop n xs) in
+    omega arith
+
 module _ (s0 s1 : Parts ℕ ℕ ℕ) (n : ℕ) (e1 : s1 ≡ mained (after n s0.main) s0) where
   main_is : s1.main ≡ after n s0.main
   main_is = ap (λ (s : Parts ℕ ℕ ℕ). s.main) e1
+
+  pub main_long : length s1.main ≡ length s0.main
+  main_long = ap (λ (xs : List (Resident ℕ)). length xs) main_is ∙ length_after n s0.main
 
   module _ (p : ℕ) (u : Bool) (h : AtHand s1.main p u) where
     -- one more turn of the hand

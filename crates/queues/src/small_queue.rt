@@ -24,8 +24,10 @@ impl Residents {
     pub fn tail_used(&self) -> bool
         ensures { result ≡ is_tail_used (ended (held self.now).small) }
     {
-        self.tail()
-            .is_some_and(|place| self.slots.places[place as usize].state.is_used())
+        self.tail().map_or(
+            false,
+            |place| self.slots.places[place as usize].state.is_used(),
+        )
     }
 
     /// Moves Small's last to Main's end.

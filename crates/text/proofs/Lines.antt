@@ -4,7 +4,7 @@ use Rattle.std.proofs.lemmas.List.{take_more, same_from_push, get_or_push}
 use Rattle.std.proofs.lemmas.Str.Pattern.{NoCharPasses-char, drop_at_char}
 use Rattle.std.specs.Str.Pattern.{EndsAtFirstMatch, FindsChar}
 use Rattle.std.proofs.lemmas.Bool.{ne_eqb}
-use Rattle.text.proofs.Fields.{Lacks, cut_lacks, cut_none, lacks_rest}
+use Rattle.text.proofs.Fields.{Lacks, cut_is, cut_lacks, cut_none, lacks_rest}
 use Rattle.text.specs.Field.{cut}
 use Rattle.text.specs.Line.{lines_of}
 
@@ -17,6 +17,9 @@ lines_more (x ∷ xs) ys h = rw (ne_eqb x 10 (λ e. h 0 (omega arith) e), lines_
 pub lines_broken : (x : ℕ) (xs : List ℕ) → Lacks 10 (x ∷ xs) → lines_of (x ∷ xs) ≡ None ∷ []
 lines_broken x [] h = rw (ne_eqb x 10 (λ e. h 0 (omega arith) e)) refl
 lines_broken x (y ∷ ys) h = rw (ne_eqb x 10 (λ e. h 0 (omega arith) e), lines_broken y ys (lacks_rest 10 x (y ∷ ys) h)) refl
+
+pub lines_cut : (bs xs ys : List ℕ) → cut 10 bs ≡ Some (xs, ys) → lines_of bs ≡ Some xs ∷ lines_of ys
+lines_cut bs xs ys e = let parts = cut_is 10 bs xs ys e in ap lines_of parts.0 ∙ lines_more xs ys parts.1
 
 -- where there is no line feed, the whole text is one broken line
 pub lines_uncut : (bs : List ℕ) → 0 < length bs → cut 10 bs ≡ None → lines_of bs ≡ None ∷ []

@@ -9,8 +9,8 @@ use Rattle.queues.proofs.Sound.{home_low}
 use Rattle.queues.proofs.Tail.{tail_home, tail_used_is, untailed_is}
 use Rattle.queues.proofs.residents.Residents.tail_used.Goals as goal
 
-pub is_some_and-requires : goal.is_some_and-requires
-is_some_and-requires c =
+pub map_or-requires : goal.map_or-requires
+map_or-requires c =
     let s = c.args.self.now.slots in
     let low : (x : ℕ) → c.tail.result ≡ Some x → x < 512 = λ x e. let h = tail_home s x (sym e ∙ c.tail.ensures) in home_low s x (omega arith) in
     grind (arith, serving)
@@ -18,10 +18,10 @@ is_some_and-requires c =
 pub returns : goal.returns
 returns c =
     let s = c.args.self.now.slots in
-    let none : c.tail.result ≡ None → c.is_some_and.result ≡ is_tail_used (ended (parts_of s).small) = λ e.
-    MatchOption-at_none _ _ e c.is_some_and.ensures ∙ untailed_is s (sym e ∙ c.tail.ensures) in
-    let some : (p : ℕ) → c.tail.result ≡ Some p → c.is_some_and.result ≡ is_tail_used (ended (parts_of s).small) = λ p e.
-    let f = MatchOption-at_some _ _ p e c.is_some_and.ensures in
-    let r : c.is_some_and.result ≡ was_used (state_of s p) = search rules in
+    let none : c.tail.result ≡ None → c.map_or.result ≡ is_tail_used (ended (parts_of s).small) = λ e.
+    MatchOption-at_none _ _ e c.map_or.ensures ∙ untailed_is s (sym e ∙ c.tail.ensures) in
+    let some : (p : ℕ) → c.tail.result ≡ Some p → c.map_or.result ≡ is_tail_used (ended (parts_of s).small) = λ p e.
+    let f = MatchOption-at_some _ _ p e c.map_or.ensures in
+    let r : c.map_or.result ≡ was_used (state_of s p) = search rules in
     r ∙ tail_used_is s p (sym e ∙ c.tail.ensures) in
-    (elim c.tail.result as (λ o. c.tail.result ≡ o → c.is_some_and.result ≡ is_tail_used (ended (parts_of s).small)) [ None ↦ none | Some p ↦ some p ]) refl
+    (elim c.tail.result as (λ o. c.tail.result ≡ o → c.map_or.result ≡ is_tail_used (ended (parts_of s).small)) [ None ↦ none | Some p ↦ some p ]) refl
