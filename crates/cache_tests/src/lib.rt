@@ -1,9 +1,13 @@
 //! Runs of the cache, call by call and as a list, and its size.
 #![tactic(auto)]
 
+ghost use Rattle.std.specs.Prelude.{◌+◌, ◌%◌, ◌^◌, true};
+
 #[cfg(test)]
 mod tests {
     use cache::{Cache, Record, measure, play};
+    use cache_calls::{AskedKeepRule, Unchanged};
+    use keys::kind::Key;
     use keys::named::NamedKey;
     use keys::numbered::NumberedKey;
     use loaders::fault::{Cause, Fault};
@@ -35,6 +39,39 @@ mod tests {
         fn keep(&self, _key: &NumberedKey, _value: &Station) -> bool {
             self.stays
         }
+    }
+
+    impl AskedKeepRule<NumberedKey, Station> for Every {
+        ghost keeps = { λ rule _ _. rule.stays };
+
+        ghost after = { λ rule _ _. rule };
+
+        fn keep(&mut self, _key: &NumberedKey, _value: &Station) -> bool {
+            self.stays
+        }
+    }
+
+    /// A rule that keeps all and counts its asks, whatever the key.
+    #[derive(Clone, Copy)]
+    struct Counting {
+        asks: u64,
+    }
+
+    impl<K: Key, V> AskedKeepRule<K, V> for Counting {
+        ghost keeps = { λ _ _ _. true };
+
+        ghost after = { λ rule _ _. record { asks = (rule.asks + 1) % 2 ^ 64 } };
+
+        fn keep(&mut self, _key: &K, _value: &V) -> bool {
+            self.asks = self.asks.wrapping_add(1);
+            true
+        }
+    }
+
+    /// A struct that holds a cache and says nothing of its keys.
+    #[derive(Drop)]
+    struct Trip<'a, K, V> {
+        cache: Cache<'a, K, V>,
     }
 
     fn key(station: u16) -> NumberedKey {
@@ -90,7 +127,9 @@ mod tests {
         assert_eq!(rt; cache.get(&key(2)), None);
         assert_eq!(rt; cache.get_at(0, &key(1)), Some(at(6)));
         assert!(rt; cache.contains(&key(9)));
-        cache.retain(&mut Every { stays: true });
+        cache.retain(&mut Unchanged {
+            rule: Every { stays: true },
+        });
         assert!(rt; cache.remove(&key(9)));
         cache.retain(&mut Every { stays: false });
         assert!(rt; !cache.contains(&key(1)));
@@ -124,6 +163,19 @@ mod tests {
         assert_eq!(rt; answers[5], Answer::Refused(why));
         assert_eq!(rt; why.number(), 5);
         Ok(())
+    }
+
+    #[test]
+    fn a_rule_that_counts_its_asks(rt: HostRuntime) {
+        let mut records = [blank(); 2];
+        let mut trip = Trip {
+            cache: Cache::open(&mut records),
+        };
+        assert!(rt; trip.cache.put(key(1), at(1)).is_ok());
+        assert!(rt; trip.cache.put(key(2), at(2)).is_ok());
+        let mut rule = Counting { asks: 0 };
+        trip.cache.retain(&mut rule);
+        assert_eq!(rt; rule.asks, 2);
     }
 
     #[test]
