@@ -82,6 +82,8 @@ impl Residents {
     }
 
     /// Puts the place of a resident onto the free stack; false if the place is not a resident's.
+    /// By a call of its own, which keeps the loop of a retain short.
+    #[inline(never)]
     pub fn release(&mut self, place: u16) -> bool
         ensures answer { result ≡ resides place (held self.old) }
         ensures held { held self.new ≡ released place (held self.old) }
